@@ -1,0 +1,126 @@
+-- "The net of the examples": what document 01 marks P, and some of our own on what its sentences say, as one statement over one list.
+-- Each is asked of the calls' own definitions. Assumes nothing.
+use Prim.Native.Nat.{ℕ, suc}
+use mathlib.Core.Path.{_≡_}
+use mathlib.Core.List.{List, [], _∷_, _++_}
+use lib.ListN.{length, replicate}
+use Rattle.rules.specs.Costs.{closed, sumOf, costOf}
+use Rattle.rules.specs.Replies.{Reply, edges, done, far, drive, noWalk}
+use Rattle.rules.specs.Net.{Net, net, rankList}
+use Rattle.rules.specs.Route.{routeList}
+use Rattle.rules.specs.Calls.{BuildLeaves, CustomiseLeaves, buildLeaves, customiseLeaves, distanceLeaves, routeLeaves, buildLeft, customiseLeft, distanceLeft, routeLeft}
+
+-- what stands in the rooms before a call: no call may rely on it
+abbrev pub stale : ℕ → List ℕ
+stale n = replicate n 77
+
+-- build, with one place more than E may need
+unfoldable pub builtBy : Net → ℕ → BuildLeaves
+unfolding buildLeaves
+builtBy N room =
+    buildLeaves (N .tails) (N .heads) (N .order) (stale (length (N .order))) (stale (suc (length (N .order)))) (stale room)
+
+-- build, then customise
+unfoldable pub customisedBy : Net → ℕ → CustomiseLeaves
+unfolding builtBy customiseLeaves
+customisedBy N room =
+    let b = builtBy N room in
+    customiseLeaves N (b .rank) (b .first) (b .heads) (stale room) (stale room)
+
+-- what an example claims of a net, with rooms of so many places
+pub data Claim : Type 0 where
+  hasRows : Net → ℕ → ℕ → List ℕ → List ℕ → Claim
+  hasCosts : Net → ℕ → List ℕ → List ℕ → Claim
+  goes : Net → ℕ → ℕ → ℕ → ℕ → List ℕ → Claim
+  nowhere : Net → ℕ → ℕ → ℕ → Claim
+  addsUp : ℕ → ℕ → ℕ → Claim
+
+-- the claims' meaning. E, first and heads; the up and the down list; from one junction to another a distance and the arcs of the route, by
+-- distance and by route, with a place more than the route needs; no walk; the sum of two costs
+abbrev pub Holds : Claim → Type 0
+Holds (hasRows N room e first heads) = builtBy N room ≡ buildLeft (rankList (N .order)) first heads (edges e)
+Holds (hasCosts N room up down) = customisedBy N room ≡ customiseLeft up down done
+Holds (goes N room from to d arcs) =
+    let b = builtBy N room in
+    let c = customisedBy N room in
+    (distanceLeaves (N .order) (b .rank) (b .first) (b .heads) (c .up) (c .down) from to ≡ distanceLeft (far d))
+    × (routeLeaves N (b .rank) (b .first) (b .heads) (c .up) (c .down) from to (stale (suc (length arcs)))
+    ≡ routeLeft (arcs ++ (closed ∷ [])) (drive d (length arcs)))
+Holds (nowhere N room from to) =
+    let b = builtBy N room in
+    let c = customisedBy N room in
+    (distanceLeaves (N .order) (b .rank) (b .first) (b .heads) (c .up) (c .down) from to ≡ distanceLeft noWalk)
+    × (routeLeaves N (b .rank) (b .first) (b .heads) (c .up) (c .down) from to (stale 2)
+    ≡ routeLeft (closed ∷ closed ∷ []) noWalk)
+Holds (addsUp a b c) = sumOf (costOf a) (costOf b) ≡ costOf c
+
+-- every claim of a list holds
+abbrev pub AllHold : List Claim → Type 0
+AllHold [] = Unit {0}
+AllHold (c ∷ cs) = Holds c × AllHold cs
+
+-- "N4: arcs 0: 1 to 0, 3; 1: 0 to 2, 4; 2: 2 to 3, 2; 3: 3 to 1, 6; 4: 1 to 3, 20. Order 0, 1, 2, 3."
+abbrev pub n4 : Net
+n4 = net (1 ∷ 0 ∷ 2 ∷ 3 ∷ 1 ∷ []) (0 ∷ 2 ∷ 3 ∷ 1 ∷ 3 ∷ []) (3 ∷ 4 ∷ 2 ∷ 6 ∷ 20 ∷ []) (0 ∷ 1 ∷ 2 ∷ 3 ∷ [])
+
+-- "arc 2 CLOSED"
+abbrev pub n4Shut : Net
+n4Shut = net (n4 .tails) (n4 .heads) (3 ∷ 4 ∷ closed ∷ 6 ∷ 20 ∷ []) (n4 .order)
+
+-- "as P7 with a sixth arc, 1 to 3, cost 30"
+abbrev pub n4Bypass : Net
+n4Bypass =
+    net (n4Shut .tails ++ (1 ∷ [])) (n4Shut .heads ++ (3 ∷ [])) (n4Shut .costs ++ (30 ∷ [])) (n4Shut .order)
+
+-- "order 3, 2, 1, 0"
+abbrev pub n4Turned : Net
+n4Turned = net (n4 .tails) (n4 .heads) (n4 .costs) (3 ∷ 2 ∷ 1 ∷ 0 ∷ [])
+
+-- "star 0 to 1, 0 to 2, 0 to 3", in an order
+abbrev pub star : List ℕ → Net
+star order = net (0 ∷ 0 ∷ 0 ∷ []) (1 ∷ 2 ∷ 3 ∷ []) (1 ∷ 1 ∷ 1 ∷ []) order
+
+-- P1 to P10 of document 01
+unfoldable pub paper : List Claim
+paper =
+    -- P1
+    hasRows n4 6 5 (0 ∷ 2 ∷ 4 ∷ 5 ∷ 5 ∷ []) (1 ∷ 2 ∷ 2 ∷ 3 ∷ 3 ∷ 0 ∷ [])
+    -- P2
+    ∷ hasCosts n4 6 (closed ∷ 4 ∷ 7 ∷ 20 ∷ 2 ∷ closed ∷ []) (3 ∷ closed ∷ closed ∷ 6 ∷ 13 ∷ closed ∷ [])
+    -- P3, P4, P5, P6
+    ∷ goes n4 6 1 3 9 (0 ∷ 1 ∷ 2 ∷ [])
+    ∷ goes n4 6 0 1 12 (1 ∷ 2 ∷ 3 ∷ [])
+    ∷ goes n4 6 2 0 11 (2 ∷ 3 ∷ 0 ∷ [])
+    ∷ goes n4 6 0 0 0 []
+    -- P7
+    ∷ nowhere n4Shut 6 0 1
+    ∷ goes n4Shut 6 1 3 20 (4 ∷ [])
+    -- P8
+    ∷ goes n4Bypass 6 1 3 30 (5 ∷ [])
+    -- P9
+    ∷ hasRows n4Turned 6 5 (0 ∷ 2 ∷ 4 ∷ 5 ∷ 5 ∷ []) (1 ∷ 2 ∷ 2 ∷ 3 ∷ 3 ∷ 0 ∷ [])
+    ∷ goes n4Turned 6 1 3 9 (0 ∷ 1 ∷ 2 ∷ [])
+    -- P10
+    ∷ hasRows (star (0 ∷ 1 ∷ 2 ∷ 3 ∷ [])) 7 6 (0 ∷ 3 ∷ 5 ∷ 6 ∷ 6 ∷ []) (1 ∷ 2 ∷ 3 ∷ 2 ∷ 3 ∷ 3 ∷ 0 ∷ [])
+    ∷ hasRows (star (1 ∷ 2 ∷ 3 ∷ 0 ∷ [])) 4 3 (0 ∷ 1 ∷ 2 ∷ 3 ∷ 3 ∷ []) (3 ∷ 3 ∷ 3 ∷ 0 ∷ [])
+    ∷ []
+
+-- Our own, one for each sentence that no P example tells apart
+unfoldable pub ours : List Claim
+ours =
+    -- "the lowest meeting position": 0 to 1 meets at 1 and at 2, at the same cost
+    goes (net (0 ∷ 0 ∷ 2 ∷ []) (1 ∷ 2 ∷ 1 ∷ []) (2 ∷ 1 ∷ 1 ∷ []) (0 ∷ 1 ∷ 2 ∷ [])) 4 0 1 2 (0 ∷ [])
+    -- "the lowest q": 2 has its label from 0 and from 1, at the same cost
+    ∷ goes (net (0 ∷ 1 ∷ 0 ∷ []) (1 ∷ 2 ∷ 2 ∷ []) (1 ∷ 1 ∷ 2 ∷ []) (0 ∷ 1 ∷ 2 ∷ [])) 4 0 2 2 (2 ∷ [])
+    -- "the lowest z": 2 to 3 opens over 0 and over 1, at the same cost
+    ∷ goes (net (2 ∷ 0 ∷ 2 ∷ 1 ∷ []) (0 ∷ 3 ∷ 1 ∷ 3 ∷ []) (1 ∷ 1 ∷ 1 ∷ 1 ∷ []) (0 ∷ 1 ∷ 2 ∷ 3 ∷ [])) 6 2 3 2 (0 ∷ 1 ∷ [])
+    -- "taken as the arc in force in its direction if that arc's cost is w; otherwise": 1 to 2 is an arc and opens over 0, at the same cost
+    ∷ goes (net (1 ∷ 0 ∷ 1 ∷ []) (0 ∷ 2 ∷ 2 ∷ []) (1 ∷ 1 ∷ 2 ∷ []) (0 ∷ 1 ∷ 2 ∷ [])) 4 1 2 2 (2 ∷ [])
+    -- "some arc, of any cost": a closed arc makes an edge
+    ∷ hasRows (net (0 ∷ []) (1 ∷ []) (closed ∷ []) (0 ∷ 1 ∷ [])) 2 1 (0 ∷ 1 ∷ 1 ∷ []) (1 ∷ 0 ∷ [])
+    -- "even when the later is closed": the later listing hides the earlier
+    ∷ nowhere (net (0 ∷ 0 ∷ []) (1 ∷ 1 ∷ []) (5 ∷ closed ∷ []) (0 ∷ 1 ∷ [])) 2 0 1
+    -- "A sum with CLOSED is CLOSED"
+    ∷ addsUp closed 3 closed
+    ∷ addsUp 3 4 7
+    ∷ []

@@ -1,0 +1,12 @@
+pub mod Words
+pub mod Costs
+pub mod Replies
+pub mod Net
+pub mod Graph
+pub mod Hierarchy
+pub mod Customised
+pub mod Distance
+pub mod Route
+pub mod Refusals
+pub mod Calls
+pub mod Examples

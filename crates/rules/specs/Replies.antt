@@ -1,0 +1,121 @@
+-- What a call replies, in the paper's numbers, for each case of each answer. The promises of the calls use these definitions.
+-- Assumes nothing.
+use Prim.Native.Nat.{ℕ}
+use Rattle.rules.specs.declared.Refusal.{Refusal}
+use Rattle.rules.specs.declared.Refusal.the-variants.{JunctionCount, ArcLists, ArcEnd, OrderEntry, RankOrFirstRoom, HeadsRoom, NotAHierarchy, ArcWithoutEdge, ArcCost, CostLists, StartOrTarget, RouteRoom, PieceFitsNothing, Text}
+use Rattle.rules.specs.declared.BuildAnswer.{BuildAnswer}
+use Rattle.rules.specs.declared.BuildAnswer.the-variants as build
+use Rattle.rules.specs.declared.CustomiseAnswer.{CustomiseAnswer}
+use Rattle.rules.specs.declared.CustomiseAnswer.the-variants as customise
+use Rattle.rules.specs.declared.DistanceAnswer.{DistanceAnswer}
+use Rattle.rules.specs.declared.DistanceAnswer.the-variants as distance
+use Rattle.rules.specs.declared.RouteAnswer.{RouteAnswer}
+use Rattle.rules.specs.declared.RouteAnswer.the-variants as route
+use Rattle.rules.specs.Costs.{none}
+
+-- "A refusal returns its number and place and no distance"; build replies E; customise is done; distance replies a distance or "none";
+-- route replies distance and number of arcs, or "none"
+pub data Reply : Type 0 where
+  refused : ℕ → ℕ → Reply
+  edges : ℕ → Reply
+  done : Reply
+  far : ℕ → Reply
+  drive : ℕ → ℕ → Reply
+  noWalk : Reply
+
+-- "Numbers of refusal": the column "No."
+abbrev pub refusalNumber : Refusal → ℕ
+refusalNumber JunctionCount = 1
+refusalNumber ArcLists = 2
+refusalNumber (ArcEnd arc) = 3
+refusalNumber (OrderEntry position) = 4
+refusalNumber RankOrFirstRoom = 5
+refusalNumber HeadsRoom = 6
+refusalNumber NotAHierarchy = 7
+refusalNumber (ArcWithoutEdge arc) = 8
+refusalNumber (ArcCost arc) = 9
+refusalNumber CostLists = 10
+refusalNumber StartOrTarget = 11
+refusalNumber RouteRoom = 12
+refusalNumber PieceFitsNothing = 13
+refusalNumber (Text line) = 14
+
+-- "Numbers of refusal": the column "Place"
+abbrev pub refusalPlace : Refusal → ℕ
+refusalPlace JunctionCount = 0
+refusalPlace ArcLists = 0
+refusalPlace (ArcEnd arc) = arc
+refusalPlace (OrderEntry position) = position
+refusalPlace RankOrFirstRoom = 0
+refusalPlace HeadsRoom = 0
+refusalPlace NotAHierarchy = 0
+refusalPlace (ArcWithoutEdge arc) = arc
+refusalPlace (ArcCost arc) = arc
+refusalPlace CostLists = 0
+refusalPlace StartOrTarget = 0
+refusalPlace RouteRoom = 0
+refusalPlace PieceFitsNothing = 0
+refusalPlace (Text line) = line
+
+abbrev pub buildReply : BuildAnswer → Reply
+buildReply (build.Edges e) = edges e
+buildReply (build.Refused r) = refused (refusalNumber r) (refusalPlace r)
+
+abbrev pub customiseReply : CustomiseAnswer → Reply
+customiseReply customise.Done = done
+customiseReply (customise.Refused r) = refused (refusalNumber r) (refusalPlace r)
+
+abbrev pub distanceReply : DistanceAnswer → Reply
+distanceReply (distance.Tenths d) = far d
+distanceReply distance.NoWalk = noWalk
+distanceReply (distance.Refused r) = refused (refusalNumber r) (refusalPlace r)
+
+abbrev pub routeReply : RouteAnswer → Reply
+routeReply (route.Drive d k) = drive d k
+routeReply route.NoWalk = noWalk
+routeReply (route.Refused r) = refused (refusalNumber r) (refusalPlace r)
+
+-- a reply as plain numbers: the refusal's number, 0 when accepted
+abbrev pub numberTold : Reply → ℕ
+numberTold (refused k p) = k
+numberTold (edges e) = 0
+numberTold done = 0
+numberTold (far d) = 0
+numberTold (drive d k) = 0
+numberTold noWalk = 0
+
+-- the refusal's place, 0 when accepted
+abbrev pub placeTold : Reply → ℕ
+placeTold (refused k p) = p
+placeTold (edges e) = 0
+placeTold done = 0
+placeTold (far d) = 0
+placeTold (drive d k) = 0
+placeTold noWalk = 0
+
+-- E, 0 where none is told
+abbrev pub edgesTold : Reply → ℕ
+edgesTold (refused k p) = 0
+edgesTold (edges e) = e
+edgesTold done = 0
+edgesTold (far d) = 0
+edgesTold (drive d k) = 0
+edgesTold noWalk = 0
+
+-- the distance, the number for none, 0 where none is told
+abbrev pub distanceTold : Reply → ℕ
+distanceTold (refused k p) = 0
+distanceTold (edges e) = 0
+distanceTold done = 0
+distanceTold (far d) = d
+distanceTold (drive d k) = d
+distanceTold noWalk = none
+
+-- the number of arcs: "For "none": no arcs"
+abbrev pub arcsTold : Reply → ℕ
+arcsTold (refused k p) = 0
+arcsTold (edges e) = 0
+arcsTold done = 0
+arcsTold (far d) = 0
+arcsTold (drive d k) = k
+arcsTold noWalk = 0

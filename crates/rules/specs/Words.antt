@@ -1,0 +1,45 @@
+-- The words that the paper's sentences are built from: some, each, the lowest, the least, those, one by one.
+-- Each computes. Assumes nothing.
+use Prim.Native.Nat.{ℕ, zero, suc, _+_, min}
+use mathlib.Core.Bool.{Bool, true, false, cond, _&&_, _||_}
+use mathlib.Core.List.{List, [], _∷_}
+use lib.Dec.{eqb}
+
+-- some number below n passes
+unfoldable pub some : (ℕ → Bool) → ℕ → Bool
+some passes zero = false
+some passes (suc n) = some passes n || passes n
+
+-- each number below n passes
+unfoldable pub each : (ℕ → Bool) → ℕ → Bool
+each passes zero = true
+each passes (suc n) = each passes n && passes n
+
+-- the lowest of the k numbers from i on that passes; i + k if none does
+unfoldable pub lowest : (ℕ → Bool) → ℕ → ℕ → ℕ
+lowest passes i zero = i
+lowest passes i (suc k) = cond (passes i) i (lowest passes (suc i) k)
+
+-- the least of top and what f gives for the numbers below n
+unfoldable pub least : (ℕ → ℕ) → ℕ → ℕ → ℕ
+least f top zero = top
+least f top (suc n) = min (least f top n) (f n)
+
+-- those of the k numbers from i on that pass, in ascending order
+unfoldable pub those : (ℕ → Bool) → ℕ → ℕ → List ℕ
+those passes i zero = []
+those passes i (suc k) = cond (passes i) (i ∷ those passes (suc i) k) (those passes (suc i) k)
+
+-- what f gives for the k numbers from i on, one by one
+unfoldable pub tabulate : (ℕ → ℕ) → ℕ → ℕ → List ℕ
+tabulate f i zero = []
+tabulate f i (suc k) = f i ∷ tabulate f (suc i) k
+
+-- y stands in the list
+unfoldable pub has : List ℕ → ℕ → Bool
+has [] y = false
+has (x ∷ xs) y = eqb x y || has xs y
+
+-- a + b, or the top if that is no more: the top stands for "closed" or "none", and swallows what is added to it
+abbrev pub sumTo : ℕ → ℕ → ℕ → ℕ
+sumTo top a b = min (a + b) top

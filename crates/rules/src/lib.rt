@@ -1,0 +1,288 @@
+// The paper's words as types: what a cost, a junction, a position, a direction, a refusal and each call's answer are.
+// What each means is defined in specs/, one definition for one sentence of the paper.
+
+ghost use mathlib.Core.Path.{_≡_};
+ghost use Rattle.rules.specs.Costs.{sumOf, leastOf};
+ghost use Rattle.rules.specs.Replies.{refusalNumber, refusalPlace, buildReply, customiseReply, distanceReply, routeReply, numberTold, placeTold, edgesTold, distanceTold, arcsTold};
+
+// A cost in tenths of a second, or CLOSED.
+pub struct Cost(pub u32);
+
+impl Cost {
+    pub const ZERO: Cost = Cost(0);
+
+    pub const GREATEST: Cost = Cost(500000);
+
+    pub const CLOSED: Cost = Cost(4294967295);
+
+    // A sum with CLOSED is CLOSED, and so is a sum of CLOSED or more.
+    pub fn sum(a: Cost, b: Cost) -> Cost
+        ensures { λ r. ⌜ r ≡ sumOf a b ⌝ }
+    {
+        let x = a.0;
+        let y = b.0;
+        if x < Cost::CLOSED.0 - y {
+            return Cost(x + y);
+        }
+        Cost::CLOSED
+    }
+
+    // The lesser of two costs.
+    pub fn least(a: Cost, b: Cost) -> Cost
+        ensures { λ r. ⌜ r ≡ leastOf a b ⌝ }
+    {
+        if a.0 <= b.0 {
+            return a;
+        }
+        b
+    }
+}
+
+// A junction's number: roads, order entries and questions speak of junctions.
+pub struct Junction(pub u32);
+
+// A position in the order: the shortcut graph speaks of positions.
+pub struct Position(pub u32);
+
+// Along an edge from its lower end to its higher end, or the other way.
+pub enum Direction {
+    Up,
+    Down,
+}
+
+// What the search of a row answers: the place of the wanted edge, or that there is none.
+pub enum Found {
+    At(usize),
+    Nothing,
+}
+
+// Why a call refuses: a case for each of the paper's numbers 1 to 14, with the place where that is not always 0.
+pub enum Refusal {
+    JunctionCount,
+    ArcLists,
+    ArcEnd(usize),
+    OrderEntry(usize),
+    RankOrFirstRoom,
+    HeadsRoom,
+    NotAHierarchy,
+    ArcWithoutEdge(usize),
+    ArcCost(usize),
+    CostLists,
+    StartOrTarget,
+    RouteRoom,
+    PieceFitsNothing,
+    Text(usize),
+}
+
+impl Refusal {
+    // The paper's number of a refusal.
+    pub fn number(self) -> u32
+        ensures { λ r. ⌜ r ≡ refusalNumber self ⌝ }
+    {
+        match self {
+            Refusal::JunctionCount => 1,
+            Refusal::ArcLists => 2,
+            Refusal::ArcEnd(_) => 3,
+            Refusal::OrderEntry(_) => 4,
+            Refusal::RankOrFirstRoom => 5,
+            Refusal::HeadsRoom => 6,
+            Refusal::NotAHierarchy => 7,
+            Refusal::ArcWithoutEdge(_) => 8,
+            Refusal::ArcCost(_) => 9,
+            Refusal::CostLists => 10,
+            Refusal::StartOrTarget => 11,
+            Refusal::RouteRoom => 12,
+            Refusal::PieceFitsNothing => 13,
+            Refusal::Text(_) => 14,
+        }
+    }
+
+    // The paper's place of a refusal: an arc, a position, a line, or 0.
+    pub fn place(self) -> usize
+        ensures { λ r. ⌜ r ≡ refusalPlace self ⌝ }
+    {
+        match self {
+            Refusal::ArcEnd(arc) => arc,
+            Refusal::OrderEntry(position) => position,
+            Refusal::ArcWithoutEdge(arc) => arc,
+            Refusal::ArcCost(arc) => arc,
+            Refusal::Text(line) => line,
+            Refusal::JunctionCount => 0,
+            Refusal::ArcLists => 0,
+            Refusal::RankOrFirstRoom => 0,
+            Refusal::HeadsRoom => 0,
+            Refusal::NotAHierarchy => 0,
+            Refusal::CostLists => 0,
+            Refusal::StartOrTarget => 0,
+            Refusal::RouteRoom => 0,
+            Refusal::PieceFitsNothing => 0,
+        }
+    }
+}
+
+// What build answers.
+pub enum BuildAnswer {
+    Edges(usize),
+    Refused(Refusal),
+}
+
+// What customise answers.
+pub enum CustomiseAnswer {
+    Done,
+    Refused(Refusal),
+}
+
+// What distance answers: tenths of a second, or that no walk leads there.
+pub enum DistanceAnswer {
+    Tenths(u64),
+    NoWalk,
+    Refused(Refusal),
+}
+
+// What route answers: the distance and the number of arcs now in the route list.
+pub enum RouteAnswer {
+    Drive { distance: u64, arcs: usize },
+    NoWalk,
+    Refused(Refusal),
+}
+
+impl BuildAnswer {
+    // The paper's number of the refusal, 0 when accepted.
+    pub fn number(self) -> u32
+        ensures { λ r. ⌜ r ≡ numberTold (buildReply self) ⌝ }
+    {
+        match self {
+            BuildAnswer::Edges(_) => 0,
+            BuildAnswer::Refused(refusal) => refusal.number(),
+        }
+    }
+
+    // The paper's place of the refusal, 0 when accepted.
+    pub fn place(self) -> usize
+        ensures { λ r. ⌜ r ≡ placeTold (buildReply self) ⌝ }
+    {
+        match self {
+            BuildAnswer::Edges(_) => 0,
+            BuildAnswer::Refused(refusal) => refusal.place(),
+        }
+    }
+
+    // E, 0 after a refusal.
+    pub fn edges(self) -> usize
+        ensures { λ r. ⌜ r ≡ edgesTold (buildReply self) ⌝ }
+    {
+        match self {
+            BuildAnswer::Edges(e) => e,
+            BuildAnswer::Refused(_) => 0,
+        }
+    }
+}
+
+impl CustomiseAnswer {
+    // The paper's number of the refusal, 0 when accepted.
+    pub fn number(self) -> u32
+        ensures { λ r. ⌜ r ≡ numberTold (customiseReply self) ⌝ }
+    {
+        match self {
+            CustomiseAnswer::Done => 0,
+            CustomiseAnswer::Refused(refusal) => refusal.number(),
+        }
+    }
+
+    // The paper's place of the refusal, 0 when accepted.
+    pub fn place(self) -> usize
+        ensures { λ r. ⌜ r ≡ placeTold (customiseReply self) ⌝ }
+    {
+        match self {
+            CustomiseAnswer::Done => 0,
+            CustomiseAnswer::Refused(refusal) => refusal.place(),
+        }
+    }
+}
+
+impl DistanceAnswer {
+    // The paper's number of the refusal, 0 when accepted.
+    pub fn number(self) -> u32
+        ensures { λ r. ⌜ r ≡ numberTold (distanceReply self) ⌝ }
+    {
+        match self {
+            DistanceAnswer::Tenths(_) => 0,
+            DistanceAnswer::NoWalk => 0,
+            DistanceAnswer::Refused(refusal) => refusal.number(),
+        }
+    }
+
+    // The paper's place of the refusal, 0 when accepted.
+    pub fn place(self) -> usize
+        ensures { λ r. ⌜ r ≡ placeTold (distanceReply self) ⌝ }
+    {
+        match self {
+            DistanceAnswer::Tenths(_) => 0,
+            DistanceAnswer::NoWalk => 0,
+            DistanceAnswer::Refused(refusal) => refusal.place(),
+        }
+    }
+
+    // The distance, 18446744073709551615 for none, 0 after a refusal.
+    pub fn distance(self) -> u64
+        ensures { λ r. ⌜ r ≡ distanceTold (distanceReply self) ⌝ }
+    {
+        match self {
+            DistanceAnswer::Tenths(d) => d,
+            DistanceAnswer::NoWalk => 18446744073709551615,
+            DistanceAnswer::Refused(_) => 0,
+        }
+    }
+}
+
+impl RouteAnswer {
+    // The paper's number of the refusal, 0 when accepted.
+    pub fn number(self) -> u32
+        ensures { λ r. ⌜ r ≡ numberTold (routeReply self) ⌝ }
+    {
+        match self {
+            RouteAnswer::Drive {
+                distance: _,
+                arcs: _,
+            } => 0,
+            RouteAnswer::NoWalk => 0,
+            RouteAnswer::Refused(refusal) => refusal.number(),
+        }
+    }
+
+    // The paper's place of the refusal, 0 when accepted.
+    pub fn place(self) -> usize
+        ensures { λ r. ⌜ r ≡ placeTold (routeReply self) ⌝ }
+    {
+        match self {
+            RouteAnswer::Drive {
+                distance: _,
+                arcs: _,
+            } => 0,
+            RouteAnswer::NoWalk => 0,
+            RouteAnswer::Refused(refusal) => refusal.place(),
+        }
+    }
+
+    // The distance, 18446744073709551615 for none, 0 after a refusal.
+    pub fn distance(self) -> u64
+        ensures { λ r. ⌜ r ≡ distanceTold (routeReply self) ⌝ }
+    {
+        match self {
+            RouteAnswer::Drive { distance, arcs: _ } => distance,
+            RouteAnswer::NoWalk => 18446744073709551615,
+            RouteAnswer::Refused(_) => 0,
+        }
+    }
+
+    // The number of arcs of the route, 0 for none and after a refusal.
+    pub fn arcs(self) -> usize
+        ensures { λ r. ⌜ r ≡ arcsTold (routeReply self) ⌝ }
+    {
+        match self {
+            RouteAnswer::Drive { distance: _, arcs } => arcs,
+            RouteAnswer::NoWalk => 0,
+            RouteAnswer::Refused(_) => 0,
+        }
+    }
+}
