@@ -14,30 +14,8 @@ use Rattle.rules.specs.Net.{Net, size, arcs, tail, head, arcCost}
 use Rattle.rules.specs.Hierarchy.{isHierarchy, itsE, linked}
 use Rattle.rules.specs.Refusals.{Verdict, passes, fails, firstFailure, failsIf, failsAt, differ, check1, check2, check3, check4, check5, check6, check7, check8, check9, check10, check11}
 use Rattle.rules.specs.Calls.{customiseChecks, distanceChecks, routeChecks}
-use Rattle.theory.proofs.Laws.{lowest-before, either, split, true-holds, true-false, or-l, or-r, and-i, not-i, not-e, neb-i, eqb-e, eqb-i, ltb-i, leb-i}
-
--- ---- verdicts
-
--- a check that passes and one that fails are two things
-pub passes-fails : {A : Type 0} {k p : ℕ} → passes ≡ fails k p → A
-passes-fails {k} {p} e = let z : _≡_ {A = ℕ} 0 1 = cc in absurd (omega arith)
-
--- where the first failure is none, the first check passes and so does the rest
-pub first-passes : (v : Verdict) (vs : List Verdict) → firstFailure (v ∷ vs) ≡ passes → (v ≡ passes) × (firstFailure vs ≡ passes)
-first-passes passes vs e = (refl, e)
-first-passes (fails k p) vs e = passes-fails (sym e)
-
--- a check of a whole: it passes exactly if the fault is not there
-pub if-passes : (k : ℕ) (b : Bool) → failsIf k b ≡ passes → T b → ⊥
-if-passes k true e t = passes-fails (sym e)
-if-passes k false e t = t
-
--- a check of places: it passes exactly if no place is at fault
-pub at-passes : (k : ℕ) (f : ℕ → Bool) (n i : ℕ) → failsAt k f n ≡ passes → i < n → T (f i) → ⊥
-at-passes k f n i e h t =
-    either (split (ltb (lowest f 0 n) n))
-    (λ d. passes-fails (sym (rw d at e)))
-    (λ d. lowest-before f 0 n i (omega arith) (let x = ltb-false (lowest f 0 n) n d in omega arith) t)
+use Rattle.theory.proofs.Verdicts.{first-passes, if-passes, at-passes}
+use Rattle.theory.proofs.Laws.{either, split, true-holds, or-l, or-r, and-i, not-i, not-e, neb-i, eqb-e, eqb-i, ltb-i, leb-i}
 
 -- ---- what each check establishes
 

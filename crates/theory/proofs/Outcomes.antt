@@ -1,0 +1,147 @@
+-- Each promise allows one outcome: the paper's numbers tell the answers apart, so reply and lent lists are determined. Assumes nothing.
+use Prim.Native.Nat.{ℕ}
+use mathlib.Core.Path.{_≡_, refl, sym, ap, ap₂, _∙_}
+use mathlib.Core.List.{List, [], _∷_}
+use lib.ListN.{getD}
+use Rattle.rules.specs.declared.Refusal.{Refusal}
+use Rattle.rules.specs.declared.Refusal.the-variants.{JunctionCount, ArcLists, ArcEnd, OrderEntry, RankOrFirstRoom, HeadsRoom, NotAHierarchy, ArcWithoutEdge, ArcCost, CostLists, StartOrTarget, RouteRoom, PieceFitsNothing, Text}
+use Rattle.rules.specs.declared.BuildAnswer.{BuildAnswer}
+use Rattle.rules.specs.declared.BuildAnswer.the-variants as build
+use Rattle.rules.specs.declared.CustomiseAnswer.{CustomiseAnswer}
+use Rattle.rules.specs.declared.CustomiseAnswer.the-variants as customise
+use Rattle.rules.specs.declared.DistanceAnswer.{DistanceAnswer}
+use Rattle.rules.specs.declared.DistanceAnswer.the-variants as distance
+use Rattle.rules.specs.declared.RouteAnswer.{RouteAnswer}
+use Rattle.rules.specs.declared.RouteAnswer.the-variants as route
+use Rattle.rules.specs.Net.{Net}
+use Rattle.rules.specs.Replies.{Reply, refused, edges, done, far, drive, noWalk, refusalNumber, refusalPlace, buildReply, customiseReply, distanceReply, routeReply}
+use Rattle.rules.specs.Calls.{BuildLeaves, buildLeft, buildLeaves, CustomiseLeaves, customiseLeft, customiseLeaves, DistanceLeaves, distanceLeft, distanceLeaves, RouteLeaves, routeLeft, routeLeaves}
+
+-- ---- refusals
+
+-- the refusal that a number and a place tell
+abbrev refusalOf : ℕ → ℕ → Refusal
+refusalOf number place =
+    getD
+    (JunctionCount
+    ∷ JunctionCount
+    ∷ ArcLists
+    ∷ ArcEnd place
+    ∷ OrderEntry place
+    ∷ RankOrFirstRoom
+    ∷ HeadsRoom
+    ∷ NotAHierarchy
+    ∷ ArcWithoutEdge place
+    ∷ ArcCost place
+    ∷ CostLists
+    ∷ StartOrTarget
+    ∷ RouteRoom
+    ∷ PieceFitsNothing
+    ∷ Text place
+    ∷ [])
+    number
+    JunctionCount
+
+refusal-back : (r : Refusal) → refusalOf (refusalNumber r) (refusalPlace r) ≡ r
+refusal-back JunctionCount = refl
+refusal-back ArcLists = refl
+refusal-back (ArcEnd arc) = refl
+refusal-back (OrderEntry position) = refl
+refusal-back RankOrFirstRoom = refl
+refusal-back HeadsRoom = refl
+refusal-back NotAHierarchy = refl
+refusal-back (ArcWithoutEdge arc) = refl
+refusal-back (ArcCost arc) = refl
+refusal-back CostLists = refl
+refusal-back StartOrTarget = refl
+refusal-back RouteRoom = refl
+refusal-back PieceFitsNothing = refl
+refusal-back (Text line) = refl
+
+-- number and place tell refusals apart
+pub refusals-apart : (a b : Refusal) → refusalNumber a ≡ refusalNumber b → refusalPlace a ≡ refusalPlace b → a ≡ b
+refusals-apart a b e d = sym (refusal-back a) ∙ ap₂ refusalOf e d ∙ refusal-back b
+
+-- ---- answers
+
+-- a reply read back: what to make of a refusal, of one number, of two and of none
+abbrev readReply : {A : Type 0} → (Refusal → A) → (ℕ → A) → (ℕ → ℕ → A) → A → Reply → A
+readReply refuse one two bare (refused k p) = refuse (refusalOf k p)
+readReply refuse one two bare (edges e) = one e
+readReply refuse one two bare done = bare
+readReply refuse one two bare (far d) = one d
+readReply refuse one two bare (drive d k) = two d k
+readReply refuse one two bare noWalk = bare
+
+-- answers that can be read back from their replies are told apart by them
+answers : {A : Type 0} (reply : A → Reply) (refuse : Refusal → A) (one : ℕ → A) (two : ℕ → ℕ → A) (bare : A)
+    → ((x : A) → readReply refuse one two bare (reply x) ≡ x) → (a b : A) → reply a ≡ reply b → a ≡ b
+answers reply refuse one two bare back a b e = sym (back a) ∙ ap (readReply refuse one two bare) e ∙ back b
+
+-- the reply of each call tells its answers apart
+pub build-answers : (a b : BuildAnswer) → buildReply a ≡ buildReply b → a ≡ b
+build-answers =
+    answers buildReply build.Refused build.Edges (λ d k. build.Edges 0) (build.Edges 0)
+    (elim [ build.Edges e ↦ refl | build.Refused r ↦ ap build.Refused (refusal-back r) ])
+
+pub customise-answers : (a b : CustomiseAnswer) → customiseReply a ≡ customiseReply b → a ≡ b
+customise-answers =
+    answers customiseReply customise.Refused (λ e. customise.Done) (λ d k. customise.Done) customise.Done
+    (elim [ customise.Done ↦ refl | customise.Refused r ↦ ap customise.Refused (refusal-back r) ])
+
+pub distance-answers : (a b : DistanceAnswer) → distanceReply a ≡ distanceReply b → a ≡ b
+distance-answers =
+    answers distanceReply distance.Refused distance.Tenths (λ d k. distance.NoWalk) distance.NoWalk
+    (elim [ distance.Tenths d ↦ refl | distance.NoWalk ↦ refl | distance.Refused r ↦ ap distance.Refused (refusal-back r) ])
+
+pub route-answers : (a b : RouteAnswer) → routeReply a ≡ routeReply b → a ≡ b
+route-answers =
+    answers routeReply route.Refused (λ d. route.NoWalk) route.Drive route.NoWalk
+    (elim [ route.Drive d k ↦ refl | route.NoWalk ↦ refl | route.Refused r ↦ ap route.Refused (refusal-back r) ])
+
+-- ---- outcomes
+
+-- whatever build is lent, its promise allows one outcome: answer, rank, first and heads
+pub build-determined : (tails heads order rank₀ first₀ rowHeads₀ : List ℕ)
+    (r r′ : BuildAnswer) (rank rank′ first first′ rowHeads rowHeads′ : List ℕ)
+    → buildLeft rank first rowHeads (buildReply r) ≡ buildLeaves tails heads order rank₀ first₀ rowHeads₀
+    → buildLeft rank′ first′ rowHeads′ (buildReply r′) ≡ buildLeaves tails heads order rank₀ first₀ rowHeads₀
+    → (r ≡ r′) × (rank ≡ rank′) × (first ≡ first′) × (rowHeads ≡ rowHeads′)
+build-determined tails heads order rank₀ first₀ rowHeads₀ r r′ rank rank′ first first′ rowHeads rowHeads′ e e′ =
+    let s = e ∙ sym e′ in (
+      build-answers r r′ (ap (λ (x : BuildLeaves). x .reply) s),
+      ap (λ (x : BuildLeaves). x .rank) s,
+      ap (λ (x : BuildLeaves). x .first) s,
+      ap (λ (x : BuildLeaves). x .heads) s,
+    )
+
+-- customise's promise: answer, up and down
+pub customise-determined : (N : Net) (rank first rowHeads up₀ down₀ : List ℕ)
+    (r r′ : CustomiseAnswer) (up up′ down down′ : List ℕ)
+    → customiseLeft up down (customiseReply r) ≡ customiseLeaves N rank first rowHeads up₀ down₀
+    → customiseLeft up′ down′ (customiseReply r′) ≡ customiseLeaves N rank first rowHeads up₀ down₀
+    → (r ≡ r′) × (up ≡ up′) × (down ≡ down′)
+customise-determined N rank first rowHeads up₀ down₀ r r′ up up′ down down′ e e′ =
+    let s = e ∙ sym e′ in (
+      customise-answers r r′ (ap (λ (x : CustomiseLeaves). x .reply) s),
+      ap (λ (x : CustomiseLeaves). x .up) s,
+      ap (λ (x : CustomiseLeaves). x .down) s,
+    )
+
+-- distance's promise: the answer
+pub distance-determined : (order rank first rowHeads up down : List ℕ) (from to : ℕ) (r r′ : DistanceAnswer)
+    → distanceLeft (distanceReply r) ≡ distanceLeaves order rank first rowHeads up down from to
+    → distanceLeft (distanceReply r′) ≡ distanceLeaves order rank first rowHeads up down from to
+    → r ≡ r′
+distance-determined order rank first rowHeads up down from to r r′ e e′ =
+    distance-answers r r′ (ap (λ (x : DistanceLeaves). x .reply) (e ∙ sym e′))
+
+-- route's promise: answer and route
+pub route-determined : (N : Net) (rank first rowHeads up down : List ℕ) (from to : ℕ) (route₀ : List ℕ)
+    (r r′ : RouteAnswer) (route route′ : List ℕ)
+    → routeLeft route (routeReply r) ≡ routeLeaves N rank first rowHeads up down from to route₀
+    → routeLeft route′ (routeReply r′) ≡ routeLeaves N rank first rowHeads up down from to route₀
+    → (r ≡ r′) × (route ≡ route′)
+route-determined N rank first rowHeads up down from to route₀ r r′ route route′ e e′ =
+    let s = e ∙ sym e′ in
+    (route-answers r r′ (ap (λ (x : RouteLeaves). x .reply) s), ap (λ (x : RouteLeaves). x .route) s)
