@@ -14,6 +14,8 @@ use Rattle.rules.specs.Net.{Net, size, arcs, tail, head, arcCost}
 use Rattle.rules.specs.Hierarchy.{isHierarchy, itsE, linked}
 use Rattle.rules.specs.Refusals.{Verdict, passes, fails, firstFailure, failsIf, failsAt, differ, check1, check2, check3, check4, check5, check6, check7, check8, check9, check10, check11}
 use Rattle.rules.specs.Calls.{customiseChecks, distanceChecks, routeChecks}
+use Rattle.theory.proofs.Ranks.{Ordered, Inverse, ordered, inverse}
+use Rattle.theory.proofs.Rows.{Rows, rows, ranked}
 use Rattle.theory.proofs.Verdicts.{first-passes, if-passes, at-passes}
 use Rattle.theory.proofs.Laws.{either, split, true-holds, or-l, or-r, and-i, not-i, not-e, neb-i, eqb-e, eqb-i, ltb-i, leb-i}
 
@@ -131,6 +133,38 @@ in-range-passes n from to h g = rw (lt-leb n from h, lt-leb n to g) refl
 
 -- ---- together
 
+-- each of customise's checks passes
+pub record Passed (N : Net) (rank first rowHeads up down : List ℕ) : Type 0 where
+  pub c1 : check1 (size N) ≡ passes
+  pub c2 : check2 (arcs N) (length (N .heads) ∷ length (N .costs) ∷ []) ≡ passes
+  pub c3 : check3 (size N) (N .tails) (N .heads) ≡ passes
+  pub c4 : check4 (N .order) ≡ passes
+  pub c7 : check7 (N .order) rank first rowHeads ≡ passes
+  pub c8 : check8 (N .tails) (N .heads) rank first rowHeads ≡ passes
+  pub c9 : check9 (N .costs) ≡ passes
+  pub c10 : check10 (itsE (N .order) first) up down ≡ passes
+
+pub passed-all : (N : Net) (rank first rowHeads up down : List ℕ) → customiseChecks N rank first rowHeads up down ≡ passes
+    → Passed N rank first rowHeads up down
+unfolding customiseChecks
+passed-all N rank first rowHeads up down e =
+    let v10 = check10 (itsE (N .order) first) up down ∷ [] in
+    let v9 = check9 (N .costs) ∷ v10 in
+    let v8 = check8 (N .tails) (N .heads) rank first rowHeads ∷ v9 in
+    let v7 = check7 (N .order) rank first rowHeads ∷ v8 in
+    let v4 = check4 (N .order) ∷ v7 in
+    let v3 = check3 (size N) (N .tails) (N .heads) ∷ v4 in
+    let lengths = length (N .heads) ∷ length (N .costs) ∷ [] in
+    let p1 = first-passes (check1 (size N)) (check2 (arcs N) lengths ∷ v3) e in
+    let p2 = first-passes (check2 (arcs N) lengths) v3 (p1 .1) in
+    let p3 = first-passes (check3 (size N) (N .tails) (N .heads)) v4 (p2 .1) in
+    let p4 = first-passes (check4 (N .order)) v7 (p3 .1) in
+    let p7 = first-passes (check7 (N .order) rank first rowHeads) v8 (p4 .1) in
+    let p8 = first-passes (check8 (N .tails) (N .heads) rank first rowHeads) v9 (p7 .1) in
+    let p9 = first-passes (check9 (N .costs)) v10 (p8 .1) in
+    let p10 = first-passes (check10 (itsE (N .order) first) up down) [] (p9 .1) in
+    record { c1 = p1 .0; c2 = p2 .0; c3 = p3 .0; c4 = p4 .0; c7 = p7 .0; c8 = p8 .0; c9 = p9 .0; c10 = p10 .0 }
+
 -- roads, order, graph and cost lists that customise accepts
 pub record Accepted (N : Net) (rank first rowHeads up down : List ℕ) : Type 0 where
   pub some : 0 < size N
@@ -139,8 +173,9 @@ pub record Accepted (N : Net) (rank first rowHeads up down : List ℕ) : Type 0 
   pub costs-long : length (N .costs) ≡ arcs N
   pub fit : arcs N ≤ 16384
   pub ends-in : (i : ℕ) → i < arcs N → (tail N i < size N) × (head N i < size N)
-  pub order-passes : check4 (N .order) ≡ passes
-  pub hierarchy : T (isHierarchy (N .order) rank first rowHeads)
+  pub seats : Ordered (N .order)
+  pub ranks : Inverse (N .order) rank
+  pub rows-of : Rows (size N) first rowHeads
   pub edges : (i : ℕ) → i < arcs N → tail N i ≢ head N i → T (linked first rowHeads (getD rank (tail N i) 0) (getD rank (head N i) 0))
   pub lawful : (i : ℕ) → i < arcs N → LawfulCost (arcCost N i)
   pub up-long : itsE (N .order) first ≤ length up
@@ -148,38 +183,25 @@ pub record Accepted (N : Net) (rank first rowHeads up down : List ℕ) : Type 0 
 
 pub accepted : (N : Net) (rank first rowHeads up down : List ℕ) → customiseChecks N rank first rowHeads up down ≡ passes
     → Accepted N rank first rowHeads up down
-unfolding customiseChecks
 accepted N rank first rowHeads up down e =
-    let c10 = check10 (itsE (N .order) first) up down ∷ [] in
-    let c9 = check9 (N .costs) ∷ c10 in
-    let c8 = check8 (N .tails) (N .heads) rank first rowHeads ∷ c9 in
-    let c7 = check7 (N .order) rank first rowHeads ∷ c8 in
-    let c4 = check4 (N .order) ∷ c7 in
-    let c3 = check3 (size N) (N .tails) (N .heads) ∷ c4 in
-    let c2 = check2 (arcs N) (length (N .heads) ∷ length (N .costs) ∷ []) ∷ c3 in
-    let p1 = first-passes (check1 (size N)) c2 e in
-    let p2 = first-passes (check2 (arcs N) (length (N .heads) ∷ length (N .costs) ∷ [])) c3 (p1 .1) in
-    let p3 = first-passes (check3 (size N) (N .tails) (N .heads)) c4 (p2 .1) in
-    let p4 = first-passes (check4 (N .order)) c7 (p3 .1) in
-    let p7 = first-passes (check7 (N .order) rank first rowHeads) c8 (p4 .1) in
-    let p8 = first-passes (check8 (N .tails) (N .heads) rank first rowHeads) c9 (p7 .1) in
-    let p9 = first-passes (check9 (N .costs)) c10 (p8 .1) in
-    let p10 = first-passes (check10 (itsE (N .order) first) up down) [] (p9 .1) in
-    let f1 = passes1 (size N) (p1 .0) in
-    let f2 = passes2 (arcs N) (length (N .heads)) (length (N .costs) ∷ []) (p2 .0) in
+    let P = passed-all N rank first rowHeads up down e in
+    let f1 = passes1 (size N) (P .c1) in
+    let f2 = passes2 (arcs N) (length (N .heads)) (length (N .costs) ∷ []) (P .c2) in
     let costs : length (N .costs) ≡ arcs N = differ-no (arcs N) (length (N .costs)) [] (f2 .2) .0 in
-    let f10 = passes10 (itsE (N .order) first) up down (p10 .0) in
+    let f10 = passes10 (itsE (N .order) first) up down (P .c10) in
+    let h = passes7 (N .order) rank first rowHeads (P .c7) in
     record {
       some = f1 .0;
       few = f1 .1;
       heads-long = f2 .0;
       costs-long = costs;
       fit = f2 .1;
-      ends-in = passes3 (size N) (N .tails) (N .heads) (p3 .0);
-      order-passes = p4 .0;
-      hierarchy = passes7 (N .order) rank first rowHeads (p7 .0);
-      edges = passes8 (N .tails) (N .heads) rank first rowHeads (p8 .0);
-      lawful = λ i h. passes9 (N .costs) (p9 .0) i (omega arith);
+      ends-in = passes3 (size N) (N .tails) (N .heads) (P .c3);
+      seats = ordered (N .order) (P .c4);
+      ranks = inverse rank (ordered (N .order) (P .c4)) (ranked (N .order) rank first rowHeads h);
+      rows-of = rows (N .order) rank first rowHeads h;
+      edges = passes8 (N .tails) (N .heads) rank first rowHeads (P .c8);
+      lawful = λ i l. passes9 (N .costs) (P .c9) i (omega arith);
       up-long = f10 .0;
       down-long = f10 .1
     }

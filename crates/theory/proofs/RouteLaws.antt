@@ -118,7 +118,7 @@ one {cost} a b r = then {a = a} {b = b} {w = 0} {x = cost a b} {xs = []} r (rest
 -- ---- what a piece opens into
 
 -- at most the top and not the top is below it
-below-top : (c : ℕ) → c ≤ closed → c ≢ closed → c < closed
+pub below-top : (c : ℕ) → c ≤ closed → c ≢ closed → c < closed
 below-top c h n = either (split (ltb c closed)) (λ e. ltb-true c closed e) (λ e. absurd (n (let x = ltb-false c closed e in omega arith)))
 
 module _ (joined : ℕ → ℕ → Bool) (cost road arc : ℕ → ℕ → ℕ) where

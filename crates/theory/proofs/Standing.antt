@@ -1,0 +1,216 @@
+-- Accepted roads, order and graph, with costs as customising left them: they meet every hypothesis of the theory of ways, so the distance
+-- between two positions is the least walk between them. Assumes nothing.
+use Prim.Native.Nat.{ℕ, zero, suc, _+_, _*_, _≤_, _<_, min}
+use mathlib.Core.Path.{_≡_, refl, sym, ap, _∙_, subst}
+use mathlib.Core.Logic.{_⊎_, inl, inr, _≢_}
+use mathlib.Core.Bool.{Bool, true, false, cond}
+use mathlib.Core.List.{List, [], _∷_}
+use native.Mathlib.Omega.{arith}
+use native.Mathlib.Nat.{mul-le-mul-right}
+use lib.Dec.{T, eqb, ltb}
+use lib.ListN.{length, getD, List·getD-eq-default}
+use borrow.Author.Tests.{ltb-true, ltb-false, eqb-false}
+use Rattle.rules.specs.Words.{tabulate}
+use Rattle.rules.specs.Costs.{closed, none, greatest}
+use Rattle.rules.specs.declared.Direction.{Direction}
+use Rattle.rules.specs.declared.Direction.the-variants.{Up, Down}
+use Rattle.rules.specs.Net.{Net, size, arcs, tail, head, arcCost, junction, twoPositions, arcBetween, roadBetween}
+use Rattle.rules.specs.Hierarchy.{linked, held, place, rowOf, along, itsE}
+use Rattle.rules.specs.Customised.{customised, costList}
+use Rattle.rules.specs.Distance.{label, distance}
+use Rattle.rules.specs.Calls.{shortcutCost}
+use Rattle.theory.proofs.Laws.{either, split, true-holds, eqb-e, cond-true, length-tabulate, getD-tabulate}
+use Rattle.theory.proofs.CostLaws.{customised-direct, customised-over, customised-made}
+use Rattle.theory.proofs.LabelLaws.{Step, label-start, label-step, label-made, distance-le, distance-made, distance-top}
+use Rattle.theory.proofs.RoadLaws.{OpenArc, between-arc, arc-between, force-apart, force-open}
+use Rattle.theory.proofs.RouteLaws.{below-top}
+use Rattle.theory.proofs.Ways.{Walk, Joins, Customised, Through, Labels, Link, Meets, turned, reached}
+use Rattle.theory.proofs.Simple.{bounded}
+use Rattle.theory.proofs.Low.{cost-bound, shortest-of-all}
+use Rattle.theory.proofs.Game.{two-e}
+use Rattle.theory.proofs.Ranks.{Inverse}
+use Rattle.theory.proofs.Rows.{Rows, linked-turn, linked-two, linked-third}
+use Rattle.theory.proofs.HeldCosts.{held-list}
+use Rattle.theory.proofs.Accepted.{Accepted, LawfulCost}
+
+module _ {N : Net} {rank first rowHeads up down : List ℕ} (A : Accepted N rank first rowHeads up down) where
+  -- two positions are joined, by the lists
+  abbrev pub Joined : ℕ → ℕ → Type 0
+  Joined a b = T (linked first rowHeads a b)
+
+  -- a road that is not CLOSED costs from 1 to the greatest, and joins its ends
+  pub road-lawful : (a b : ℕ) → roadBetween N a b ≢ closed → (1 ≤ roadBetween N a b) × (roadBetween N a b ≤ greatest)
+  road-lawful a b n =
+      let w = between-arc N a b n in
+      let i = arcBetween N a b in
+      let c = w .2 in
+      let l : LawfulCost (arcCost N i) = A .lawful i (w .1 .listed) in
+      (let x = l .least-one in omega arith,
+      either (l .most) (λ e. absurd (n (c ∙ e))) (λ e. omega arith))
+
+  pub road-small : (a b : ℕ) → roadBetween N a b ≤ closed
+  road-small a b =
+      either (split (eqb (roadBetween N a b) closed))
+      (λ e. let x = eqb-e (roadBetween N a b) closed (true-holds (eqb (roadBetween N a b) closed) e) in omega arith)
+      (λ e. let x = road-lawful a b (eqb-false (roadBetween N a b) closed e) .1 in omega arith)
+
+  road-open : (a b : ℕ) → roadBetween N a b < closed → roadBetween N a b ≢ closed
+  road-open a b h e = omega arith
+
+  pub road-joins : (a b : ℕ) → roadBetween N a b < closed → Joined a b
+  road-joins a b h =
+      let w = between-arc N a b (road-open a b h) in
+      let i = arcBetween N a b in
+      let o = w .1 in
+      let two = two-e N a b (w .0) in
+      let j : T (linked first rowHeads (getD rank (tail N i) 0) (getD rank (head N i) 0)) = A .edges i (o .listed) (force-apart N i (o .in-force)) in
+      let ea : getD rank (tail N i) 0 ≡ a = ap (λ x. getD rank x 0) (o .tail-is) ∙ A .ranks .back a (two .0) in
+      let eb : getD rank (head N i) 0 ≡ b = ap (λ x. getD rank x 0) (o .head-is) ∙ A .ranks .back b (two .1) in
+      rw (ea, eb) at j
+
+  pub joins : Joins closed (size N) (roadBetween N) Joined
+  joins =
+      record {
+        turn = λ {a} {b} j. linked-turn first rowHeads a b j;
+        apart = λ {a} {b} j. linked-two (A .rows-of) a b j .2;
+        below = λ {a} {b} j. linked-two (A .rows-of) a b j .0;
+        roads = λ {a} {b} h. road-joins a b h;
+        third = linked-third (A .rows-of)
+      }
+
+  -- no finite customised cost is over 4,095 times the greatest: "Customised costs that aren't CLOSED are at most 2,047,500,000"
+  abbrev shortcut : ℕ → ℕ → ℕ
+  shortcut = shortcutCost N first rowHeads
+
+  pub shortcut-customised : Customised closed (roadBetween N) Joined shortcut
+  unfolding shortcutCost
+  shortcut-customised =
+      let joined = linked first rowHeads in
+      record {
+        direct = λ {a} {b} j. customised-direct joined (roadBetween N) a b;
+        over = λ {z} {a} {b} h g n i j. customised-over joined (roadBetween N) z a b h g i j;
+        made = λ {a} {b} j h.
+          either (customised-made joined (roadBetween N) a b h) (λ e. inl e)
+          (λ w. inr (record { mid = w .0; under-a = let x = w .1 in omega arith; under-b = let x = w .1 in omega arith; to-a = w .2; to-b = w .3; sum = w .4 }))
+      }
+
+  pub shortcut-small : (a b : ℕ) → shortcut a b ≤ closed
+  unfolding shortcutCost
+  shortcut-small a b = omega (arith, customised-direct (linked first rowHeads) (roadBetween N) a b, road-small a b)
+
+  pub shortcut-bound : (a b : ℕ) → Joined a b → shortcut a b < closed → shortcut a b ≤ 2047500000
+  shortcut-bound a b j h =
+      let few = A .few in
+      let x = cost-bound joins shortcut-customised {M = greatest} (λ u v r. road-lawful u v (road-open u v r) .1) j h in
+      omega (arith, mul-le-mul-right greatest few)
+
+  -- labels over any costs of which none is over CLOSED are labels in the sense of the theory
+  pub labels : (step : ℕ → ℕ → ℕ) → ((a b : ℕ) → step a b ≤ closed) → (s : ℕ) → Labels closed none Joined step s (label (linked first rowHeads) step s)
+  labels step small s =
+      let joined = linked first rowHeads in
+      record {
+        start = label-start joined step s;
+        least = λ {q} {p} h j o. label-step joined step s q p (record { rises = h; edge = j; open-road = λ e. omega arith });
+        made = λ {p} h.
+          either (label-made joined step s p h) (λ w. inl (w .0))
+          (λ w.
+            let k = w .1 .1 in
+            inr (record { from = w .1 .0; under = k .rises; edge = k .edge; finite = below-top (step (w .1 .0) p) (small (w .1 .0) p) (k .open-road); sum = w .1 .2 }))
+      }
+
+  -- a list of costs has nothing over CLOSED
+  list-small : (d : Direction) (room k : ℕ) → getD (costList (size N) first rowHeads shortcut d room) k closed ≤ closed
+  unfolding costList
+  list-small d room k =
+      either (split (ltb k room))
+      (λ e.
+        let g = getD-tabulate at 0 room k closed (ltb-true k room e) in
+        omega (arith, at-small (0 + k)))
+      (λ e.
+        let g = List·getD-eq-default (tabulate at 0 room) closed {n = k} (let x = ltb-false k room e in omega (arith, length-tabulate at 0 room)) in
+        omega arith)
+    where
+      at : ℕ → ℕ
+      at i = cond (ltb i (getD first (size N) 0)) (along d shortcut (rowOf (size N) first i) (getD rowHeads i 0)) closed
+
+      along-small : (d : Direction) (a b : ℕ) → along d shortcut a b ≤ closed
+      along-small Up a b = shortcut-small a b
+      along-small Down a b = shortcut-small b a
+
+      at-small : (i : ℕ) → at i ≤ closed
+      at-small i =
+          either (split (ltb i (getD first (size N) 0)))
+          (λ e. rw e (along-small d (rowOf (size N) first i) (getD rowHeads i 0)))
+          (λ e. rw e (omega arith))
+
+  -- ---- up and down as customising left them
+
+  module _ {ups downs : List ℕ} (eu : ups ≡ costList (size N) first rowHeads shortcut Up (length up))
+      (ed : downs ≡ costList (size N) first rowHeads shortcut Down (length down)) where
+    -- the cost held at an edge's place is the customised one
+    abbrev pub heldCost : ℕ → ℕ → ℕ
+    heldCost = held first rowHeads ups downs
+
+    pub held-is : (a b : ℕ) → Joined a b → heldCost a b ≡ shortcut a b
+    held-is a b j = rw (eu, ed) (held-list (A .rows-of) shortcut a b (length up) (length down) (A .up-long) (A .down-long) j)
+
+    pub held-small : (a b : ℕ) → heldCost a b ≤ closed
+    unfolding held
+    held-small a b =
+        either (split (ltb a b))
+        (λ e. rw (e, eu) (list-small Up (length up) (place first rowHeads a b)))
+        (λ e. rw (e, ed) (list-small Down (length down) (place first rowHeads b a)))
+
+    pub held-customised : Customised closed (roadBetween N) Joined heldCost
+    held-customised =
+        let J = joins in
+        let C = shortcut-customised in
+        record {
+          direct = λ {a} {b} j. rw (held-is a b j) (C .direct j);
+          over = λ {z} {a} {b} h g n i j.
+            rw (held-is a b (J .third z a b h g n i j), held-is a z (J .turn i), held-is z b j) (C .over h g n i j);
+          made = λ {a} {b} j h.
+            either (C .made j (let x = held-is a b j in omega arith))
+            (λ e. inl (held-is a b j ∙ e))
+            (λ w.
+              inr (record {
+                mid = w .mid; under-a = w .under-a; under-b = w .under-b; to-a = w .to-a; to-b = w .to-b;
+                sum = rw (held-is a b j, held-is a (w .mid) (J .turn (w .to-a)), held-is (w .mid) b (w .to-b)) (w .sum)
+              }))
+        }
+
+    module _ (s t : ℕ) where
+      abbrev pub far : ℕ
+      far = distance (size N) (linked first rowHeads) heldCost s t
+
+      from-start : Labels closed none Joined heldCost s (label (linked first rowHeads) (along Up heldCost) s)
+      from-start = labels heldCost held-small s
+
+      from-target : Labels closed none Joined (turned heldCost) t (label (linked first rowHeads) (along Down heldCost) t)
+      from-target = labels (turned heldCost) (λ a b. held-small b a) t
+
+      meets : Meets (size N) none (label (linked first rowHeads) (along Up heldCost) s) (label (linked first rowHeads) (along Down heldCost) t) far
+      meets =
+          record {
+            least = distance-le (size N) (linked first rowHeads) heldCost s t;
+            made = distance-made (size N) (linked first rowHeads) heldCost s t
+          }
+
+      -- the distance between two positions is that of a walk
+      pub far-walk : far < none → Walk closed (roadBetween N) s t far
+      far-walk h = reached joins held-customised from-start from-target meets h
+
+      -- and no walk is cheaper
+      pub far-least : {w : ℕ} → s < size N → Walk closed (roadBetween N) s t w → far ≤ w
+      far-least l p =
+          let few = A .few in
+          shortest-of-all joins held-customised {M = greatest} (λ u v r. road-lawful u v (road-open u v r) .1)
+          (omega (arith, mul-le-mul-right greatest few)) from-start from-target meets l p
+
+      -- where there is a walk there is a distance
+      pub far-some : {w : ℕ} → s < size N → Walk closed (roadBetween N) s t w → far < none
+      far-some l p =
+          let few = A .few in
+          let (x, q, c, b) =
+              bounded {M = greatest} (λ u v r. joins .below (joins .turn (joins .roads r))) (λ u v r. road-lawful u v (road-open u v r) .1) l p in
+          omega (arith, far-least l q, mul-le-mul-right greatest few)
