@@ -41,10 +41,11 @@ not-neb a b n =
 pub passes1 : (n : ℕ) → check1 n ≡ passes → (0 < n) × (n ≤ 4096)
 unfolding check1
 passes1 n e =
-    let f = if-passes 1 (eqb n 0 || ltb 4096 n) e in
-    (either (split (eqb n 0)) (λ d. absurd (not-or-l (eqb n 0) (ltb 4096 n) f (true-holds (eqb n 0) d)))
-      (λ d. let x = eqb-false n 0 d in omega arith),
-    not-ltb 4096 n (not-or-r (eqb n 0) (ltb 4096 n) f))
+    let f = if-passes 1 (eqb n 0 || ltb 4096 n) e in (
+      either (split (eqb n 0)) (λ d. absurd (not-or-l (eqb n 0) (ltb 4096 n) f (true-holds (eqb n 0) d)))
+          (λ d. let x = eqb-false n 0 d in omega arith),
+      not-ltb 4096 n (not-or-r (eqb n 0) (ltb 4096 n) f),
+    )
 
 -- one list as long as another
 differ-no : (m k : ℕ) (ks : List ℕ) → (T (differ m (k ∷ ks)) → ⊥) → (k ≡ m) × (T (differ m ks) → ⊥)
@@ -62,16 +63,18 @@ passes2 m k ks e =
 pub passes3 : (n : ℕ) (tails heads : List ℕ) → check3 n tails heads ≡ passes → (i : ℕ) → i < length tails → (getD tails i 0 < n) × (getD heads i 0 < n)
 unfolding check3
 passes3 n tails heads e i h =
-    let f = at-passes 3 (λ i. leb n (getD tails i 0) || leb n (getD heads i 0)) (length tails) i e h in
-    (not-leb n (getD tails i 0) (not-or-l (leb n (getD tails i 0)) (leb n (getD heads i 0)) f),
-    not-leb n (getD heads i 0) (not-or-r (leb n (getD tails i 0)) (leb n (getD heads i 0)) f))
+    let f = at-passes 3 (λ i. leb n (getD tails i 0) || leb n (getD heads i 0)) (length tails) i e h in (
+      not-leb n (getD tails i 0) (not-or-l (leb n (getD tails i 0)) (leb n (getD heads i 0)) f),
+      not-leb n (getD heads i 0) (not-or-r (leb n (getD tails i 0)) (leb n (getD heads i 0)) f),
+    )
 
 pub passes5 : (n : ℕ) (rank first : List ℕ) → check5 n rank first ≡ passes → (length rank ≡ n) × (length first ≡ suc n)
 unfolding check5
 passes5 n rank first e =
-    let f = if-passes 5 (not (eqb (length rank) n) || not (eqb (length first) (suc n))) e in
-    (not-neb (length rank) n (not-or-l (not (eqb (length rank) n)) (not (eqb (length first) (suc n))) f),
-    not-neb (length first) (suc n) (not-or-r (not (eqb (length rank) n)) (not (eqb (length first) (suc n))) f))
+    let f = if-passes 5 (not (eqb (length rank) n) || not (eqb (length first) (suc n))) e in (
+      not-neb (length rank) n (not-or-l (not (eqb (length rank) n)) (not (eqb (length first) (suc n))) f),
+      not-neb (length first) (suc n) (not-or-r (not (eqb (length rank) n)) (not (eqb (length first) (suc n))) f),
+    )
 
 pub passes7 : (order rank first heads : List ℕ) → check7 order rank first heads ≡ passes → T (isHierarchy order rank first heads)
 unfolding check7
@@ -89,8 +92,8 @@ passes8 tails heads rank first rowHeads e i h n =
     let f = at-passes 8 (λ i. apart i && not (joined i)) (length tails) i e h in
     either (split (joined i)) (λ d. true-holds (joined i) d)
     (λ d.
-      absurd (f (and-i (apart i) (not (joined i)) (neb-i (getD tails i 0) (getD heads i 0) n)
-      (subst (λ x. T (not x)) (sym d) tt))))
+    absurd (f (and-i (apart i) (not (joined i)) (neb-i (getD tails i 0) (getD heads i 0) n)
+    (subst (λ x. T (not x)) (sym d) tt))))
 
 -- an arc cost is CLOSED, or from 1 to the greatest
 pub record LawfulCost (c : ℕ) : Type 0 where
@@ -110,16 +113,17 @@ passes9 costs e i h =
       most =
           either (split (eqb c closed)) (λ d. inl (eqb-e c closed (true-holds (eqb c closed) d)))
           (λ d.
-            inr (not-ltb greatest c
-            (λ g. not-or-r (eqb c 0) dear f (and-i (ltb greatest c) (not (eqb c closed)) g (neb-i c closed (eqb-false c closed d))))))
+          inr (not-ltb greatest c
+          (λ g. not-or-r (eqb c 0) dear f (and-i (ltb greatest c) (not (eqb c closed)) g (neb-i c closed (eqb-false c closed d))))));
     }
 
 pub passes10 : (e : ℕ) (up down : List ℕ) → check10 e up down ≡ passes → (e ≤ length up) × (e ≤ length down)
 unfolding check10
 passes10 e up down p =
-    let f = if-passes 10 (ltb (length up) e || ltb (length down) e) p in
-    (not-ltb (length up) e (not-or-l (ltb (length up) e) (ltb (length down) e) f),
-    not-ltb (length down) e (not-or-r (ltb (length up) e) (ltb (length down) e) f))
+    let f = if-passes 10 (ltb (length up) e || ltb (length down) e) p in (
+      not-ltb (length up) e (not-or-l (ltb (length up) e) (ltb (length down) e) f),
+      not-ltb (length down) e (not-or-r (ltb (length up) e) (ltb (length down) e) f),
+    )
 
 pub passes11 : (n from to : ℕ) → check11 n from to ≡ passes → (from < n) × (to < n)
 unfolding check11
@@ -203,5 +207,5 @@ accepted N rank first rowHeads up down e =
       edges = passes8 (N .tails) (N .heads) rank first rowHeads (P .c8);
       lawful = λ i l. passes9 (N .costs) (P .c9) i (omega arith);
       up-long = f10 .0;
-      down-long = f10 .1
+      down-long = f10 .1;
     }

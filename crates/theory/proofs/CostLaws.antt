@@ -11,14 +11,14 @@ use Rattle.rules.specs.Customised.{over, costWithin, customised}
 use Rattle.theory.proofs.Laws.{least-start, least-le, least-made, least-same, cond-true, cond-made, and-i, and-l, and-r, either, split, true-holds}
 
 -- what goes over z where both parts agree
-over-same : (joined : ℕ → ℕ → Bool) (f g : ℕ → ℕ → ℕ) (a b z : ℕ) → (T (joined z a) → T (joined z b) → (f a z ≡ g a z) × (f z b ≡ g z b))
+pub over-same : (joined : ℕ → ℕ → Bool) (f g : ℕ → ℕ → ℕ) (a b z : ℕ) → (T (joined z a) → T (joined z b) → (f a z ≡ g a z) × (f z b ≡ g z b))
     → over joined f a b z ≡ over joined g a b z
 over-same joined f g a b z h =
     either (split (joined z a && joined z b))
     (λ e.
-      let t : T (joined z a && joined z b) = true-holds (joined z a && joined z b) e in
-      let p : (f a z ≡ g a z) × (f z b ≡ g z b) = h (and-l (joined z a) (joined z b) t) (and-r (joined z a) (joined z b) t) in
-      rw (p .0, p .1) refl)
+    let t : T (joined z a && joined z b) = true-holds (joined z a && joined z b) e in
+    let p : (f a z ≡ g a z) × (f z b ≡ g z b) = h (and-l (joined z a) (joined z b) t) (and-r (joined z a) (joined z b) t) in
+    rw (p .0, p .1) refl)
     (λ e. rw e refl)
 
 module _ (joined : ℕ → ℕ → Bool) (road : ℕ → ℕ → ℕ) where
@@ -30,8 +30,8 @@ module _ (joined : ℕ → ℕ → Bool) (road : ℕ → ℕ → ℕ) where
   settle (suc k) (suc l) a b h g =
       least-same (over joined (costWithin joined road k) a b) (over joined (costWithin joined road l) a b) (road a b) (min a b)
       (λ z i.
-        over-same joined (costWithin joined road k) (costWithin joined road l) a b z
-        (λ u v. (settle k l a z (omega arith) (omega arith), settle k l z b (omega arith) (omega arith))))
+      over-same joined (costWithin joined road k) (costWithin joined road l) a b z
+      (λ u v. (settle k l a z (omega arith) (omega arith), settle k l z b (omega arith) (omega arith))))
 
   -- "Each is the least of: the cost of the arc in force in that direction, if any; and, for each z below x joined to both, the cost of x to
   -- z plus z to y": the paper's equation
@@ -40,8 +40,8 @@ module _ (joined : ℕ → ℕ → Bool) (road : ℕ → ℕ → ℕ) where
   customised-is a b =
       least-same (over joined (costWithin joined road (min a b)) a b) (over joined (customised joined road) a b) (road a b) (min a b)
       (λ z i.
-        over-same joined (costWithin joined road (min a b)) (customised joined road) a b z
-        (λ u v. (settle (min a b) (suc (min a z)) a z (omega arith) (omega arith), settle (min a b) (suc (min z b)) z b (omega arith) (omega arith))))
+      over-same joined (costWithin joined road (min a b)) (customised joined road) a b z
+      (λ u v. (settle (min a b) (suc (min a z)) a z (omega arith) (omega arith), settle (min a b) (suc (min z b)) z b (omega arith) (omega arith))))
 
   -- no other costs satisfy it on the joined pairs
   pub customised-only : ((a b : ℕ) → T (joined a b) → T (joined b a)) → (f : ℕ → ℕ → ℕ)
@@ -55,8 +55,8 @@ module _ (joined : ℕ → ℕ → Bool) (road : ℕ → ℕ → ℕ) where
           eq a b j
           ∙ least-same (over joined f a b) (over joined (customised joined road) a b) (road a b) (min a b)
           (λ z i.
-            over-same joined f (customised joined road) a b z
-            (λ u v. (below k a z (omega arith) (turn z a u), below k z b (omega arith) v)))
+          over-same joined f (customised joined road) a b z
+          (λ u v. (below k a z (omega arith) (turn z a u), below k z b (omega arith) v)))
           ∙ sym (customised-is a b)
 
   -- a customised cost is no more than the road's, nor than going over any lower position joined to both
@@ -80,7 +80,7 @@ module _ (joined : ℕ → ℕ → Bool) (road : ℕ → ℕ → ℕ) where
       either (least-made (over joined c a b) (road a b) (min a b))
       (λ e. inl (customised-is a b ∙ e))
       (λ s.
-        let e : c a b ≡ over joined c a b (s .0) = customised-is a b ∙ s .2 in
-        let m : T (joined (s .0) a && joined (s .0) b) × (over joined c a b (s .0) ≡ sum (c a (s .0)) (c (s .0) b)) =
-            cond-made (joined (s .0) a && joined (s .0) b) (sum (c a (s .0)) (c (s .0) b)) closed (omega arith) in
-        inr (s .0, s .1, and-l (joined (s .0) a) (joined (s .0) b) (m .0), and-r (joined (s .0) a) (joined (s .0) b) (m .0), omega arith))
+      let e : c a b ≡ over joined c a b (s .0) = customised-is a b ∙ s .2 in
+      let m : T (joined (s .0) a && joined (s .0) b) × (over joined c a b (s .0) ≡ sum (c a (s .0)) (c (s .0) b)) =
+      cond-made (joined (s .0) a && joined (s .0) b) (sum (c a (s .0)) (c (s .0) b)) closed (omega arith) in
+      inr (s .0, s .1, and-l (joined (s .0) a) (joined (s .0) b) (m .0), and-r (joined (s .0) a) (joined (s .0) b) (m .0), omega arith))

@@ -73,20 +73,20 @@ unfolding customiseLeaves
 stands N rank first rowHeads up₀ down₀ up down e =
     let f = shortcutCost N first rowHeads in
     let w =
-        unless-done (customiseChecks N rank first rowHeads up₀ down₀) up₀ down₀
-        (costList (size N) first rowHeads f Up (length up₀)) (costList (size N) first rowHeads f Down (length down₀)) up down e in
+    unless-done (customiseChecks N rank first rowHeads up₀ down₀) up₀ down₀
+    (costList (size N) first rowHeads f Up (length up₀)) (costList (size N) first rowHeads f Down (length down₀)) up down e in
     record { passing = w .0; ups = w .1; downs = w .2 }
 
 -- ---- the checks of the two questions pass
 
 -- a route list is as long as its room
-length-route : (arcs : List ℕ) (room : ℕ) → length arcs ≤ room → length (routeList arcs room) ≡ room
+pub length-route : (arcs : List ℕ) (room : ℕ) → length arcs ≤ room → length (routeList arcs room) ≡ room
 unfolding routeList
 length-route arcs room h =
     length-append arcs (replicate (room - length arcs) closed)
     ∙ (let e = length-replicate {A = ℕ} (room - length arcs) closed in omega arith)
 
-below-none : (d : ℕ) → d ≤ none → d ≢ none → d < none
+pub below-none : (d : ℕ) → d ≤ none → d ≢ none → d < none
 below-none d h n = either (split (ltb d none)) (λ e. ltb-true d none e) (λ e. absurd (n (let x = ltb-false d none e in omega arith)))
 
 length-list : (n : ℕ) (first heads : List ℕ) (f : ℕ → ℕ → ℕ) (d : Direction) (room : ℕ) → length (costList n first heads f d room) ≡ room
@@ -169,7 +169,7 @@ module _ {N : Net} {rank first rowHeads up₀ down₀ up down : List ℕ} (S : S
         either (split (eqb d none))
         (λ e. rw e (no-walk (eqb-true d none e)))
         (λ e.
-          rw e (least-walk (let x = eqb-false d none e in let y = distance-top (size N) (linked first rowHeads) (held first rowHeads up down) s t in below-none d y x)))
+        rw e (least-walk (let x = eqb-false d none e in let y = distance-top (size N) (linked first rowHeads) (held first rowHeads up down) s t in below-none d y x)))
 
     distance-told : TrueDistance N from to (distanceLeaves (N .order) rank first rowHeads up down from to .reply)
     unfolding distanceLeaves listedDistance
@@ -187,8 +187,8 @@ module _ {N : Net} {rank first rowHeads up₀ down₀ up down : List ℕ} (S : S
         let cost = held first rowHeads up down in
         trail-clear (linked first rowHeads) cost (roadBetween N) (arcBetween N) (linked-turn first rowHeads)
         (λ a b j k.
-          either (held-customised A (S .ups) (S .downs) .made j k) (λ e. inl e)
-          (λ m. inr (m .mid, (let x = m .under-a in let y = m .under-b in omega arith), m .to-a, m .to-b, m .sum)))
+        either (held-customised A (S .ups) (S .downs) .made j k) (λ e. inl e)
+        (λ m. inr (m .mid, (let x = m .under-a in let y = m .under-b in omega arith), m .to-a, m .to-b, m .sum)))
         (held-small A (S .ups) (S .downs))
         (pieces-trail (linked first rowHeads) cost (size N) s t f)
 
@@ -202,12 +202,13 @@ module _ {N : Net} {rank first rowHeads up₀ down₀ up down : List ℕ} (S : S
         let (p, e, l) = drive-way N open-road (way-drives f) in
         let leads : (u v : ℕ) → roadBetween N u v < closed → v < size N = λ u v r. joins A .below (joins A .turn (joins A .roads r)) in
         let apart : Apart (places p) =
-            least-apart (λ u v r. let x = road-lawful A u v (λ (e : roadBetween N u v ≡ closed). let y : roadBetween N u v < closed = r in omega arith) in x .0) p
-            (λ x q. far-least A (S .ups) (S .downs) s t s-in q) in
-        let es : junction N s ≡ from = A .ranks .there from h in
-        (subst (λ l. T (noneTwice l)) (sym e ∙ ap (λ u. passed N u (driven way)) es)
-          (apart-once (junction N) (λ x y i j k. A .seats .once x y (places-under leads s-in p x i) (places-under leads s-in p y j) k) apart),
-        (let x = few-steps leads s-in p apart in omega arith))
+        least-apart (λ u v r. let x = road-lawful A u v (λ (e : roadBetween N u v ≡ closed). let y : roadBetween N u v < closed = r in omega arith) in x .0) p
+        (λ x q. far-least A (S .ups) (S .downs) s t s-in q) in
+        let es : junction N s ≡ from = A .ranks .there from h in (
+          subst (λ l. T (noneTwice l)) (sym e ∙ ap (λ u. passed N u (driven way)) es)
+              (apart-once (junction N) (λ x y i j k. A .seats .once x y (places-under leads s-in p x i) (places-under leads s-in p y j) k) apart),
+          (let x = few-steps leads s-in p apart in omega arith),
+        )
 
     answered : d < none → (room : ℕ) → TrueAnswer N from to room (drivenLeaves way d room .route) (drivenLeaves way d room .reply)
     unfolding drivenLeaves
@@ -217,16 +218,22 @@ module _ {N : Net} {rank first rowHeads up₀ down₀ up down : List ℕ} (S : S
         let (o, k) = way-simple f in
         either (split (ltb room (length arcs)))
         (λ e.
-          let c : trouble room way ≡ 12 = trouble-room room way (way-clear f) (ltb-true room (length arcs) e) in
-          let l = ltb-true room (length arcs) e in
-          rw (c) (refl, omega arith))
+        let c : trouble room way ≡ 12 = trouble-room room way (way-clear f) (ltb-true room (length arcs) e) in
+        let l = ltb-true room (length arcs) e in
+        rw (c) (refl, omega arith))
         (λ e.
-          let c : trouble room way ≡ 0 = trouble-none room way (way-clear f) (ltb-false room (length arcs) e) in
-          rw c
-          (record {
-            way = arcs; walks = u; costs = v; least = λ other w. walk-least other w .0; once = o; count = refl;
-            listed = ap (routeList arcs) (sym (length-route arcs room (ltb-false room (length arcs) e))); short = k
-          }))
+        let c : trouble room way ≡ 0 = trouble-none room way (way-clear f) (ltb-false room (length arcs) e) in
+        rw c
+        (record {
+          way = arcs;
+          walks = u;
+          costs = v;
+          least = λ other w. walk-least other w .0;
+          once = o;
+          count = refl;
+          listed = ap (routeList arcs) (sym (length-route arcs room (ltb-false room (length arcs) e)));
+          short = k;
+        }))
 
     route-told : (room : List ℕ)
         → TrueAnswer N from to (length room) (routeLeaves N rank first rowHeads up down from to room .route) (routeLeaves N rank first rowHeads up down from to room .reply)

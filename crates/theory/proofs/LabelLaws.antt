@@ -30,7 +30,7 @@ module _ (joined : ℕ → ℕ → Bool) (step : ℕ → ℕ → ℕ) where
   hands-le f p q j o =
       let t = joined q p && not (eqb (step q p) closed) in
       let e : handsOn joined step f p q ≡ sumTo none (f q) (step q p) =
-          cond-true t (sumTo none (f q) (step q p)) none (and-i (joined q p) (not (eqb (step q p) closed)) j (neb-i (step q p) closed o)) in
+      cond-true t (sumTo none (f q) (step q p)) none (and-i (joined q p) (not (eqb (step q p) closed)) j (neb-i (step q p) closed o)) in
       omega arith
 
   -- what is handed on at all came along such an edge
@@ -38,10 +38,11 @@ module _ (joined : ℕ → ℕ → Bool) (step : ℕ → ℕ → ℕ) where
       → T (joined q p) × (step q p ≢ closed) × (handsOn joined step f p q ≡ f q + step q p)
   hands-made f p q h =
       let t = joined q p && not (eqb (step q p) closed) in
-      let m : T t × (handsOn joined step f p q ≡ sumTo none (f q) (step q p)) = cond-made t (sumTo none (f q) (step q p)) none h in
-      (and-l (joined q p) (not (eqb (step q p) closed)) (m .0),
-      neb-e (step q p) closed (and-r (joined q p) (not (eqb (step q p) closed)) (m .0)),
-      omega arith)
+      let m : T t × (handsOn joined step f p q ≡ sumTo none (f q) (step q p)) = cond-made t (sumTo none (f q) (step q p)) none h in (
+        and-l (joined q p) (not (eqb (step q p) closed)) (m .0),
+        neb-e (step q p) closed (and-r (joined q p) (not (eqb (step q p) closed)) (m .0)),
+        omega arith,
+      )
 
   module _ (s : ℕ) where
     -- the counter does not matter as long as it is above the position
@@ -76,16 +77,16 @@ module _ (joined : ℕ → ℕ → Bool) (step : ℕ → ℕ → ℕ) where
     label-step q p k =
         either (split (ltb s p))
         (λ e.
-          let f = label joined step s in
-          let u : least (handsOn joined step f p) none p ≤ handsOn joined step f p q = least-le (handsOn joined step f p) none p q (k .rises) in
-          omega (arith, label-higher p (ltb-true s p e), hands-le f p q (k .edge) (k .open-road)))
+        let f = label joined step s in
+        let u : least (handsOn joined step f p) none p ≤ handsOn joined step f p q = least-le (handsOn joined step f p) none p q (k .rises) in
+        omega (arith, label-higher p (ltb-true s p e), hands-le f p q (k .edge) (k .open-road)))
         (λ e.
-          let g : p ≤ s = ltb-false s p e in
-          let l : label joined step s q ≡ none = label-lower q (let r = k .rises in omega arith) in
-          either (split (ltb p s))
-          (λ d. omega (arith, label-lower p (ltb-true p s d)))
-          (λ d. let x : p ≡ s = omega (arith, ltb-false p s d) in
-            omega (arith, ap (label joined step s) x, label-start)))
+        let g : p ≤ s = ltb-false s p e in
+        let l : label joined step s q ≡ none = label-lower q (let r = k .rises in omega arith) in
+        either (split (ltb p s))
+        (λ d. omega (arith, label-lower p (ltb-true p s d)))
+        (λ d. let x : p ≡ s = omega (arith, ltb-false p s d) in
+        omega (arith, ap (label joined step s) x, label-start)))
 
     -- a position with a label is the start, or has it from a lower one with a label, along an edge that is not CLOSED
     pub label-made : (p : ℕ) → label joined step s p < none
@@ -95,19 +96,19 @@ module _ (joined : ℕ → ℕ → Bool) (step : ℕ → ℕ → ℕ) where
         either (split (eqb p s))
         (λ e. let x : p ≡ s = eqb-e p s (true-holds (eqb p s) e) in inl (x, ap (label joined step s) x ∙ label-start))
         (λ e.
-          either (split (ltb s p))
-          (λ d.
-            let f = label joined step s in
-            let g : s < p = ltb-true s p d in
-            let u : f p ≡ least (handsOn joined step f p) none p = label-higher p g in
-            either (least-made (handsOn joined step f p) none p)
-            (λ w. absurd (omega arith))
-            (λ w.
-              let m = hands-made f p (w .0) (let x = w .2 in omega arith) in
-              inr (g, (w .0, (record { rises = w .1; edge = m .0; open-road = m .1 }), u ∙ w .2 ∙ m .2))))
-          (λ d.
-            let n : label joined step s p ≡ none = label-is p ∙ rw (e, d) refl in
-            absurd (omega arith)))
+        either (split (ltb s p))
+        (λ d.
+        let f = label joined step s in
+        let g : s < p = ltb-true s p d in
+        let u : f p ≡ least (handsOn joined step f p) none p = label-higher p g in
+        either (least-made (handsOn joined step f p) none p)
+        (λ w. absurd (omega arith))
+        (λ w.
+        let m = hands-made f p (w .0) (let x = w .2 in omega arith) in
+        inr (g, (w .0, (record { rises = w .1; edge = m .0; open-road = m .1 }), u ∙ w .2 ∙ m .2))))
+        (λ d.
+        let n : label joined step s p ≡ none = label-is p ∙ rw (e, d) refl in
+        absurd (omega arith)))
 
     -- no label is lost to the top: each is below p times CLOSED
     pub label-small : ((a b : ℕ) → step a b ≤ closed) → (p : ℕ) → label joined step s p < none → label joined step s p ≤ p * closed
@@ -119,11 +120,11 @@ module _ (joined : ℕ → ℕ → Bool) (step : ℕ → ℕ → ℕ) where
             either (label-made p h)
             (λ w. let x = w .1 in omega arith)
             (λ w.
-              let q = w .1 .0 in
-              let r : q < p = w .1 .1 .rises in
-              let e : label joined step s p ≡ label joined step s q + step q p = w .1 .2 in
-              let i : label joined step s q ≤ q * closed = below k q (omega arith) (omega arith) in
-              omega (arith, small q p, mul-le-mul-right closed r))
+            let q = w .1 .0 in
+            let r : q < p = w .1 .1 .rises in
+            let e : label joined step s p ≡ label joined step s q + step q p = w .1 .2 in
+            let i : label joined step s q ≤ q * closed = below k q (omega arith) (omega arith) in
+            omega (arith, small q p, mul-le-mul-right closed r))
 
     -- where a label comes from: the lowest such position
     pub label-from : (p : ℕ) → s < p → label joined step s p < none
@@ -138,12 +139,12 @@ module _ (joined : ℕ → ℕ → Bool) (step : ℕ → ℕ → ℕ) where
         either (least-made (handsOn joined step f p) none p)
         (λ w. absurd (omega arith))
         (λ w.
-          let t : T (same (w .0)) = eqb-i (handsOn joined step f p (w .0)) (f p) (sym (u ∙ w .2)) in
-          let l : q ≤ w .0 = lowest-le same 0 p (w .0) (omega arith) t in
-          let r : q < p = let x = w .1 in omega arith in
-          let e : handsOn joined step f p q ≡ f p = eqb-e (handsOn joined step f p q) (f p) (lowest-passes same 0 p (omega arith)) in
-          let m = hands-made f p q (omega arith) in
-          ((record { rises = r; edge = m .0; open-road = m .1 }), sym e ∙ m .2))
+        let t : T (same (w .0)) = eqb-i (handsOn joined step f p (w .0)) (f p) (sym (u ∙ w .2)) in
+        let l : q ≤ w .0 = lowest-le same 0 p (w .0) (omega arith) t in
+        let r : q < p = let x = w .1 in omega arith in
+        let e : handsOn joined step f p q ≡ f p = eqb-e (handsOn joined step f p q) (f p) (lowest-passes same 0 p (omega arith)) in
+        let m = hands-made f p q (omega arith) in
+        ((record { rises = r; edge = m .0; open-road = m .1 }), sym e ∙ m .2))
 
 -- ---- the distance and the meeting position
 
@@ -183,7 +184,7 @@ module _ (n : ℕ) (joined : ℕ → ℕ → Bool) (cost : ℕ → ℕ → ℕ) 
       either (least-made b none n)
       (λ e. absurd (omega arith))
       (λ w.
-        let l : lowest same 0 n ≤ w .0 = lowest-le same 0 n (w .0) (omega arith) (eqb-i (b (w .0)) d (sym (w .2))) in
-        let r : lowest same 0 n < n = let x = w .1 in omega arith in
-        let e : b (lowest same 0 n) ≡ d = eqb-e (b (lowest same 0 n)) d (lowest-passes same 0 n (omega arith)) in
-        (r, omega arith))
+      let l : lowest same 0 n ≤ w .0 = lowest-le same 0 n (w .0) (omega arith) (eqb-i (b (w .0)) d (sym (w .2))) in
+      let r : lowest same 0 n < n = let x = w .1 in omega arith in
+      let e : b (lowest same 0 n) ≡ d = eqb-e (b (lowest same 0 n)) d (lowest-passes same 0 n (omega arith)) in
+      (r, omega arith))

@@ -220,8 +220,8 @@ lowest-before f i (suc k) j l h t =
     either (split (f i))
     (λ e. omega (arith, rw e at g))
     (λ e. either (split (eqb i j))
-      (λ d. true-false (sym (holds-true (f j) t) ∙ ap f (sym (eqb-true i j d)) ∙ e))
-      (λ d. lowest-before f (suc i) k j (omega (arith, eqb-false i j d)) (rw e at g) t))
+    (λ d. true-false (sym (holds-true (f j) t) ∙ ap f (sym (eqb-true i j d)) ∙ e))
+    (λ d. lowest-before f (suc i) k j (omega (arith, eqb-false i j d)) (rw e at g) t))
 
 -- it is no later than any that passes
 pub lowest-le : (f : ℕ → Bool) (i k j : ℕ) → i ≤ j → T (f j) → lowest f i k ≤ j
@@ -236,8 +236,8 @@ lowest-is f i k j l h t b =
     let u : lowest f i k ≤ j = lowest-le f i k j l t in
     either (split (ltb (lowest f i k) j))
     (λ e.
-      let v = ltb-true (lowest f i k) j e in
-      absurd (b (lowest f i k) (lowest-from f i k) v (lowest-passes f i k (omega arith))))
+    let v = ltb-true (lowest f i k) j e in
+    absurd (b (lowest f i k) (lowest-from f i k) v (lowest-passes f i k (omega arith))))
     (λ e. omega (arith, ltb-false (lowest f i k) j e))
 
 -- where none passes it is the end
@@ -246,8 +246,8 @@ lowest-none f i k b =
     let u : lowest f i k ≤ i + k = lowest-to f i k in
     either (split (ltb (lowest f i k) (i + k)))
     (λ e.
-      let v = ltb-true (lowest f i k) (i + k) e in
-      absurd (b (lowest f i k) (lowest-from f i k) v (lowest-passes f i k v)))
+    let v = ltb-true (lowest f i k) (i + k) e in
+    absurd (b (lowest f i k) (lowest-from f i k) v (lowest-passes f i k v)))
     (λ e. omega (arith, ltb-false (lowest f i k) (i + k) e))
 
 -- tests that agree have the same lowest
@@ -296,8 +296,8 @@ those-e f i zero q t = absurd (has-nil q t)
 those-e f i (suc k) q t =
     either (split (f i))
     (λ e. either (has-cons i q (those f (suc i) k) (rw e at t))
-      (λ d. (omega arith, omega arith, subst (λ j. T (f j)) d (true-holds (f i) e)))
-      (λ h. let (a, b, c) = those-e f (suc i) k q h in (omega arith, omega arith, c)))
+    (λ d. (omega arith, omega arith, subst (λ j. T (f j)) d (true-holds (f i) e)))
+    (λ h. let (a, b, c) = those-e f (suc i) k q h in (omega arith, omega arith, c)))
     (λ e. let (a, b, c) = those-e f (suc i) k q (rw e at t) in (omega arith, omega arith, c))
 
 pub those-i : (f : ℕ → Bool) (i k q : ℕ) → i ≤ q → q < i + k → T (f q) → T (has (those f i k) q)
@@ -306,11 +306,11 @@ those-i f i zero q l h t = absurd (omega arith)
 those-i f i (suc k) q l h t =
     either (split (eqb i q))
     (λ d.
-      let e : f i ≡ true = ap f (eqb-true i q d) ∙ holds-true (f q) t in
-      rw e (has-here i q (those f (suc i) k) (eqb-true i q d)))
+    let e : f i ≡ true = ap f (eqb-true i q d) ∙ holds-true (f q) t in
+    rw e (has-here i q (those f (suc i) k) (eqb-true i q d)))
     (λ d.
-      let r : T (has (those f (suc i) k) q) = those-i f (suc i) k q (omega (arith, eqb-false i q d)) (omega arith) t in
-      either (split (f i)) (λ e. rw e (has-there i q (those f (suc i) k) r)) (λ e. rw e r))
+    let r : T (has (those f (suc i) k) q) = those-i f (suc i) k q (omega (arith, eqb-false i q d)) (omega arith) t in
+    either (split (f i)) (λ e. rw e (has-there i q (those f (suc i) k) r)) (λ e. rw e r))
 
 -- ---- lists made one by one
 

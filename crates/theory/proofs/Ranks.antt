@@ -43,8 +43,8 @@ unfolding check4
 ordered order h =
     record {
       within = λ p l. either (split (leb (length order) (getD order p 0)))
-        (λ e. absurd (sound p l (search (or-l, true-holds))))
-        (λ e. leb-false (length order) (getD order p 0) e);
+          (λ e. absurd (sound p l (search (or-l, true-holds))))
+          (λ e. leb-false (length order) (getD order p 0) e);
       once = λ p q k l e. neither-below p q (λ b. repeated p q b l e) (λ b. repeated q p b k (sym e));
     }
   where
@@ -80,8 +80,11 @@ left-out : (n m : ℕ) (f : ℕ → ℕ) (v : ℕ) → v < n → ((i : ℕ) → 
 left-out zero m f v h below apart out = absurd (omega arith)
 left-out (suc n) zero f v h below apart out = omega arith
 left-out (suc n) (suc m) f v h below apart out =
-    omega (arith, left-out n m (λ i. without v (f i)) (without v (f m)) (lands m (omega arith)) (λ i l. lands i (omega arith))
-    (λ i k l b. parts i k l (omega arith)) (λ i l. parts i m l (omega arith)))
+    omega (
+      arith,
+      left-out n m (λ i. without v (f i)) (without v (f m)) (lands m (omega arith)) (λ i l. lands i (omega arith))
+          (λ i k l b. parts i k l (omega arith)) (λ i l. parts i m l (omega arith)),
+    )
   where
     lands : (i : ℕ) → i < suc m → without v (f i) < n
     lands i l = omega (arith, below i l, out i l)
@@ -97,9 +100,12 @@ seated {order} o j h =
     let at : ℕ → Bool = λ p. eqb (getD order p 0) j in
     either (split (some at n))
     (λ e. let (p, l, t) = some-e at n (true-holds (some at n) e) in (p, l, eqb-e (getD order p 0) j t))
-    (λ e. absurd (omega (arith, left-out n n (λ p. getD order p 0) j h (o .within)
-    (λ i k l b d. omega (arith, o .once i k (omega arith) b d))
-    (λ i l d. true-false (sym (holds-true (some at n) (some-i at n i l (eqb-i (getD order i 0) j d))) ∙ e)))))
+    (λ e. absurd (omega (
+      arith,
+      left-out n n (λ p. getD order p 0) j h (o .within)
+          (λ i k l b d. omega (arith, o .once i k (omega arith) b d))
+          (λ i l d. true-false (sym (holds-true (some at n) (some-i at n i l (eqb-i (getD order i 0) j d))) ∙ e)),
+    )))
 
 -- ---- its inverse
 

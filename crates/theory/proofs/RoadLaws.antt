@@ -64,7 +64,7 @@ module _ (N : Net) where
         listed = l;
         in-force = and-l (inForce N i) (runs N u v i) t;
         tail-is = eqb-e (tail N i) u (and-l (eqb (tail N i) u) (eqb (head N i) v) r);
-        head-is = eqb-e (head N i) v (and-r (eqb (tail N i) u) (eqb (head N i) v) r)
+        head-is = eqb-e (head N i) v (and-r (eqb (tail N i) u) (eqb (head N i) v) r);
       }
 
   -- a road that is not CLOSED is an arc in force of that cost
@@ -74,8 +74,8 @@ module _ (N : Net) where
       let i = lowest (wanted u v) 0 (arcs N) in
       either (split (ltb i (arcs N)))
       (λ e.
-        let l : i < arcs N = ltb-true i (arcs N) e in
-        (wanted-e u v i l (lowest-passes (wanted u v) 0 (arcs N) (omega arith)), rw e refl))
+      let l : i < arcs N = ltb-true i (arcs N) e in
+      (wanted-e u v i l (lowest-passes (wanted u v) 0 (arcs N) (omega arith)), rw e refl))
       (λ e. absurd (n (rw e refl)))
 
   -- an arc in force costs no less than its road
@@ -90,8 +90,8 @@ module _ (N : Net) where
       either (split (eqb j i))
       (λ e. omega (arith, ap (arcCost N) (eqb-true j i e)))
       (λ e.
-        absurd (force-last j i (w .in-force) (o .listed) (let x = eqb-false j i e in omega arith)
-        (o .tail-is ∙ sym (w .tail-is)) (o .head-is ∙ sym (w .head-is))))
+      absurd (force-last j i (w .in-force) (o .listed) (let x = eqb-false j i e in omega arith)
+      (o .tail-is ∙ sym (w .tail-is)) (o .head-is ∙ sym (w .head-is))))
 
   -- the same between positions
   pub between-arc : (a b : ℕ) → roadBetween N a b ≢ closed
@@ -102,10 +102,10 @@ module _ (N : Net) where
       let r = road N (junction N a) (junction N b) in
       either (split two)
       (λ e.
-        let t : T two = subst T (sym e) tt in
-        let c : roadBetween N a b ≡ r = cond-true two r closed t in
-        let w = road-arc (junction N a) (junction N b) (λ x. n (c ∙ x)) in
-        (t, w .0, c ∙ w .1))
+      let t : T two = subst T (sym e) tt in
+      let c : roadBetween N a b ≡ r = cond-true two r closed t in
+      let w = road-arc (junction N a) (junction N b) (λ x. n (c ∙ x)) in
+      (t, w .0, c ∙ w .1))
       (λ e. absurd (n (rw e refl)))
 
   pub arc-between : (a b i : ℕ) → T (twoPositions N a b) → OpenArc N (junction N a) (junction N b) i → roadBetween N a b ≤ arcCost N i

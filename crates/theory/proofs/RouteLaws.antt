@@ -144,18 +144,18 @@ module _ (joined : ℕ → ℕ → Bool) (cost road arc : ℕ → ℕ → ℕ) w
       let upper = opened joined cost road arc k z b in
       either (split (arcFits cost road a b))
       (λ e.
-        let t : T (arcFits cost road a b) = true-holds (arcFits cost road a b) e in
-        let o = neb-e (road a b) closed (and-l (not (eqb (road a b) closed)) (eqb (road a b) (cost a b)) t) in
-        let w = eqb-e (road a b) (cost a b) (and-r (not (eqb (road a b) closed)) (eqb (road a b) (cost a b)) t) in
-        rw e (leg {x = cost a b} o (stop {w = 0} refl refl) refl (omega arith)))
+      let t : T (arcFits cost road a b) = true-holds (arcFits cost road a b) e in
+      let o = neb-e (road a b) closed (and-l (not (eqb (road a b) closed)) (eqb (road a b) (cost a b)) t) in
+      let w = eqb-e (road a b) (cost a b) (and-r (not (eqb (road a b) closed)) (eqb (road a b) (cost a b)) t) in
+      rw e (leg {x = cost a b} o (stop {w = 0} refl refl) refl (omega arith)))
       (λ e.
-        either (split (ltb z (min a b)))
-        (λ d.
-          let fit = fit-parts a b z (lowest-passes (zFits joined cost a b) 0 (min a b) (let l = ltb-true z (min a b) d in omega arith)) in
-          let cs : Clear (lower ++ upper) = rw (e, d) at c in
-          let both = clear-parts lower upper cs in
-          rw (e, d) (drive-on (opened-drive k a z (both .0)) (opened-drive k z b (both .1)) (driven-append lower upper) (sym (fit .2))))
-        (λ d. absurd (let cs : ⊥ = rw (e, d) at c in cs)))
+      either (split (ltb z (min a b)))
+      (λ d.
+      let fit = fit-parts a b z (lowest-passes (zFits joined cost a b) 0 (min a b) (let l = ltb-true z (min a b) d in omega arith)) in
+      let cs : Clear (lower ++ upper) = rw (e, d) at c in
+      let both = clear-parts lower upper cs in
+      rw (e, d) (drive-on (opened-drive k a z (both .0)) (opened-drive k z b (both .1)) (driven-append lower upper) (sym (fit .2))))
+      (λ d. absurd (let cs : ⊥ = rw (e, d) at c in cs)))
 
   -- the same for pieces end to end
   pub trail-drive : {a b w : ℕ} {xs : List Piece} → Trail joined cost a b xs w → Clear (openedAll joined cost road arc xs)
@@ -213,15 +213,15 @@ module _ (joined : ℕ → ℕ → Bool) (cost road arc : ℕ → ℕ → ℕ) w
         either (split (arcFits cost road a b))
         (λ e. rw e tt)
         (λ e.
-          let n : T (arcFits cost road a b) → ⊥ = λ t. true-false (sym (holds-true (arcFits cost road a b) t) ∙ e) in
-          let d : ltb z (min a b) ≡ true = lt-ltb z (min a b) (middle-below a b h n (made a b j h)) in
-          let f = fit-parts a b z (lowest-passes (zFits joined cost a b) 0 (min a b) (let x = ltb-true z (min a b) d in omega arith)) in
-          let sum : cost a z + cost z b ≡ cost a b = f .2 in
-          let x = ltb-true z (min a b) d in
-          rw (e, d)
-          (clear-both lower upper
-          (opened-clear k a z (omega arith) (turn z a (f .0)) (omega arith))
-          (opened-clear k z b (omega arith) (f .1) (omega arith))))
+        let n : T (arcFits cost road a b) → ⊥ = λ t. true-false (sym (holds-true (arcFits cost road a b) t) ∙ e) in
+        let d : ltb z (min a b) ≡ true = lt-ltb z (min a b) (middle-below a b h n (made a b j h)) in
+        let f = fit-parts a b z (lowest-passes (zFits joined cost a b) 0 (min a b) (let x = ltb-true z (min a b) d in omega arith)) in
+        let sum : cost a z + cost z b ≡ cost a b = f .2 in
+        let x = ltb-true z (min a b) d in
+        rw (e, d)
+        (clear-both lower upper
+        (opened-clear k a z (omega arith) (turn z a (f .0)) (omega arith))
+        (opened-clear k z b (omega arith) (f .1) (omega arith))))
 
     -- pieces end to end open without a misfit
     pub trail-clear : ((a b : ℕ) → cost a b ≤ closed) → {a b w : ℕ} {xs : List Piece} → Trail joined cost a b xs w → Clear (openedAll joined cost road arc xs)
@@ -262,21 +262,21 @@ module _ (joined : ℕ → ℕ → Bool) (cost : ℕ → ℕ → ℕ) where
       let step = along d cost in
       either (split (eqb p s))
       (λ e.
-        let x : p ≡ s = eqb-e p s (true-holds (eqb p s) e) in
-        let z : label joined step s p ≡ 0 = ap (label joined step s) x ∙ label-start joined step s in
-        trail-none d joined cost s p (edgesWithin joined cost d s (suc k) p) (label joined step s p) x (rw e refl) z)
+      let x : p ≡ s = eqb-e p s (true-holds (eqb p s) e) in
+      let z : label joined step s p ≡ 0 = ap (label joined step s) x ∙ label-start joined step s in
+      trail-none d joined cost s p (edgesWithin joined cost d s (suc k) p) (label joined step s p) x (rw e refl) z)
       (λ e.
-        let q = labelFrom joined step s p in
-        let r : s < p =
-            either (split (ltb s p)) (λ g. ltb-true s p g)
-            (λ g. either (split (ltb p s))
-              (λ f. absurd (let z = label-lower joined step s p (ltb-true p s f) in omega arith))
-              (λ f. absurd (eqb-false p s e (let u = ltb-false s p g in let v = ltb-false p s f in omega arith)))) in
-        let m = label-from joined step s p r h in
-        let u : q < p = m .0 .rises in
-        let v : label joined step s p ≡ label joined step s q + step q p = m .1 in
-        trail-more d joined cost s q p (edgesWithin joined cost d s k q) (edgesWithin joined cost d s (suc k) p) (label joined step s q) (label joined step s p)
-        (m .0) (edges-trail d s k q (omega arith) (omega arith)) (rw e refl) v)
+      let q = labelFrom joined step s p in
+      let r : s < p =
+      either (split (ltb s p)) (λ g. ltb-true s p g)
+      (λ g. either (split (ltb p s))
+      (λ f. absurd (let z = label-lower joined step s p (ltb-true p s f) in omega arith))
+      (λ f. absurd (eqb-false p s e (let u = ltb-false s p g in let v = ltb-false p s f in omega arith)))) in
+      let m = label-from joined step s p r h in
+      let u : q < p = m .0 .rises in
+      let v : label joined step s p ≡ label joined step s q + step q p = m .1 in
+      trail-more d joined cost s q p (edgesWithin joined cost d s k q) (edgesWithin joined cost d s (suc k) p) (label joined step s q) (label joined step s p)
+      (m .0) (edges-trail d s k q (omega arith) (omega arith)) (rw e refl) v)
 
   -- "The pieces are the edges from s up to the meeting position, then those down to t": end to end, and they cost the distance
   pub pieces-trail : (n s t : ℕ) → distance n joined cost s t < none → Trail joined cost s t (pieces n joined cost s t) (distance n joined cost s t)

@@ -38,9 +38,10 @@ pub record Rows (n : ℕ) (first heads : List ℕ) : Type 0 where
 part-at : (l : List ℕ) (f t k : ℕ) → t ≤ length l → f ≤ k → k < t
     → (k - f < length (slice f t l)) × (getD (slice f t l) (k - f) 0 ≡ getD l k 0)
 part-at l f t k h a b =
-    let e : f + (k - f) ≡ k = omega arith in
-    (omega (arith, length-slice f t l h),
-    getD-drop f (take t l) (k - f) 0 ∙ ap (λ i. getD (take t l) i 0) e ∙ getD-take t l k 0 b)
+    let e : f + (k - f) ≡ k = omega arith in (
+      omega (arith, length-slice f t l h),
+      getD-drop f (take t l) (k - f) 0 ∙ ap (λ i. getD (take t l) i 0) e ∙ getD-take t l k 0 b,
+    )
 
 -- an entry of a part stands at one of its places
 part-e : (l : List ℕ) (f t y : ℕ) → T (has (slice f t l) y) → (k : ℕ) × (f ≤ k) × (k < t) × (getD l k 0 ≡ y)
@@ -124,7 +125,7 @@ module _ (order rank first heads : List ℕ) (h : T (isHierarchy order rank firs
 
   -- each place of a row holds an entry of the row
   row-at : (p k : ℕ) → p < length order → InRow first p k
-    → (k - getD first p 0 < length (rowAt first heads p)) × (getD (rowAt first heads p) (k - getD first p 0) 0 ≡ getD heads k 0)
+      → (k - getD first p 0 < length (rowAt first heads p)) × (getD (rowAt first heads p) (k - getD first p 0) 0 ≡ getD heads k 0)
   row-at p k l r =
       part-at heads (getD first p 0) (getD first (suc p) 0) k (row-ends p l) (r .low) (r .high)
 
@@ -142,12 +143,15 @@ module _ (order rank first heads : List ℕ) (h : T (isHierarchy order rank firs
   row-climb p i j l r s b =
       let (a, e) = row-at p i l r in
       let (c, d) = row-at p j l s in
-      omega (arith, ascends-climb (suc p) (length order) (rowAt first heads p) (i - getD first p 0) (j - getD first p 0)
-      (row-ascends p l) (omega (arith, r .low, s .low)) c)
+      omega (
+        arith,
+        ascends-climb (suc p) (length order) (rowAt first heads p) (i - getD first p 0) (j - getD first p 0)
+            (row-ascends p l) (omega (arith, r .low, s .low)) c,
+      )
 
   -- every entry of a row but its first stands in the parent's row too
   in-parent : (z j : ℕ) → z < length order → InRow first z j → getD first z 0 < j
-    → (k : ℕ) × InRow first (getD heads (getD first z 0) 0) k × (getD heads k 0 ≡ getD heads j 0)
+      → (k : ℕ) × InRow first (getD heads (getD first z 0) 0) k × (getD heads k 0 ≡ getD heads j 0)
   unfolding isHierarchy
   in-parent z j l r b =
       let f = getD first z 0 in

@@ -21,10 +21,10 @@ use Rattle.rules.specs.Distance.{label, distance}
 use Rattle.rules.specs.Calls.{shortcutCost}
 use Rattle.theory.proofs.Laws.{either, split, true-holds, eqb-e, cond-true, length-tabulate, getD-tabulate}
 use Rattle.theory.proofs.CostLaws.{customised-direct, customised-over, customised-made}
-use Rattle.theory.proofs.LabelLaws.{Step, label-start, label-step, label-made, distance-le, distance-made, distance-top}
+use Rattle.theory.proofs.LabelLaws.{distance-le, distance-made}
+use Rattle.theory.proofs.Parents.{labels}
 use Rattle.theory.proofs.RoadLaws.{OpenArc, between-arc, arc-between, force-apart, force-open}
-use Rattle.theory.proofs.RouteLaws.{below-top}
-use Rattle.theory.proofs.Ways.{Walk, Joins, Customised, Through, Labels, Link, Meets, turned, reached}
+use Rattle.theory.proofs.Ways.{Walk, Joins, Customised, Through, Labels, Meets, turned, reached}
 use Rattle.theory.proofs.Simple.{bounded}
 use Rattle.theory.proofs.Low.{cost-bound, shortest-of-all}
 use Rattle.theory.proofs.Game.{two-e}
@@ -44,9 +44,10 @@ module _ {N : Net} {rank first rowHeads up down : List ℕ} (A : Accepted N rank
       let w = between-arc N a b n in
       let i = arcBetween N a b in
       let c = w .2 in
-      let l : LawfulCost (arcCost N i) = A .lawful i (w .1 .listed) in
-      (let x = l .least-one in omega arith,
-      either (l .most) (λ e. absurd (n (c ∙ e))) (λ e. omega arith))
+      let l : LawfulCost (arcCost N i) = A .lawful i (w .1 .listed) in (
+        let x = l .least-one in omega arith,
+        either (l .most) (λ e. absurd (n (c ∙ e))) (λ e. omega arith),
+      )
 
   pub road-small : (a b : ℕ) → roadBetween N a b ≤ closed
   road-small a b =
@@ -75,7 +76,7 @@ module _ {N : Net} {rank first rowHeads up down : List ℕ} (A : Accepted N rank
         apart = λ {a} {b} j. linked-two (A .rows-of) a b j .2;
         below = λ {a} {b} j. linked-two (A .rows-of) a b j .0;
         roads = λ {a} {b} h. road-joins a b h;
-        third = linked-third (A .rows-of)
+        third = linked-third (A .rows-of);
       }
 
   -- no finite customised cost is over 4,095 times the greatest: "Customised costs that aren't CLOSED are at most 2,047,500,000"
@@ -90,8 +91,8 @@ module _ {N : Net} {rank first rowHeads up down : List ℕ} (A : Accepted N rank
         direct = λ {a} {b} j. customised-direct joined (roadBetween N) a b;
         over = λ {z} {a} {b} h g n i j. customised-over joined (roadBetween N) z a b h g i j;
         made = λ {a} {b} j h.
-          either (customised-made joined (roadBetween N) a b h) (λ e. inl e)
-          (λ w. inr (record { mid = w .0; under-a = let x = w .1 in omega arith; under-b = let x = w .1 in omega arith; to-a = w .2; to-b = w .3; sum = w .4 }))
+            either (customised-made joined (roadBetween N) a b h) (λ e. inl e)
+            (λ w. inr (record { mid = w .0; under-a = let x = w .1 in omega arith; under-b = let x = w .1 in omega arith; to-a = w .2; to-b = w .3; sum = w .4 }));
       }
 
   pub shortcut-small : (a b : ℕ) → shortcut a b ≤ closed
@@ -104,31 +105,17 @@ module _ {N : Net} {rank first rowHeads up down : List ℕ} (A : Accepted N rank
       let x = cost-bound joins shortcut-customised {M = greatest} (λ u v r. road-lawful u v (road-open u v r) .1) j h in
       omega (arith, mul-le-mul-right greatest few)
 
-  -- labels over any costs of which none is over CLOSED are labels in the sense of the theory
-  pub labels : (step : ℕ → ℕ → ℕ) → ((a b : ℕ) → step a b ≤ closed) → (s : ℕ) → Labels closed none Joined step s (label (linked first rowHeads) step s)
-  labels step small s =
-      let joined = linked first rowHeads in
-      record {
-        start = label-start joined step s;
-        least = λ {q} {p} h j o. label-step joined step s q p (record { rises = h; edge = j; open-road = λ e. omega arith });
-        made = λ {p} h.
-          either (label-made joined step s p h) (λ w. inl (w .0))
-          (λ w.
-            let k = w .1 .1 in
-            inr (record { from = w .1 .0; under = k .rises; edge = k .edge; finite = below-top (step (w .1 .0) p) (small (w .1 .0) p) (k .open-road); sum = w .1 .2 }))
-      }
-
   -- a list of costs has nothing over CLOSED
   list-small : (d : Direction) (room k : ℕ) → getD (costList (size N) first rowHeads shortcut d room) k closed ≤ closed
   unfolding costList
   list-small d room k =
       either (split (ltb k room))
       (λ e.
-        let g = getD-tabulate at 0 room k closed (ltb-true k room e) in
-        omega (arith, at-small (0 + k)))
+      let g = getD-tabulate at 0 room k closed (ltb-true k room e) in
+      omega (arith, at-small (0 + k)))
       (λ e.
-        let g = List·getD-eq-default (tabulate at 0 room) closed {n = k} (let x = ltb-false k room e in omega (arith, length-tabulate at 0 room)) in
-        omega arith)
+      let g = List·getD-eq-default (tabulate at 0 room) closed {n = k} (let x = ltb-false k room e in omega (arith, length-tabulate at 0 room)) in
+      omega arith)
     where
       at : ℕ → ℕ
       at i = cond (ltb i (getD first (size N) 0)) (along d shortcut (rowOf (size N) first i) (getD rowHeads i 0)) closed
@@ -168,15 +155,19 @@ module _ {N : Net} {rank first rowHeads up down : List ℕ} (A : Accepted N rank
         record {
           direct = λ {a} {b} j. rw (held-is a b j) (C .direct j);
           over = λ {z} {a} {b} h g n i j.
-            rw (held-is a b (J .third z a b h g n i j), held-is a z (J .turn i), held-is z b j) (C .over h g n i j);
+              rw (held-is a b (J .third z a b h g n i j), held-is a z (J .turn i), held-is z b j) (C .over h g n i j);
           made = λ {a} {b} j h.
-            either (C .made j (let x = held-is a b j in omega arith))
-            (λ e. inl (held-is a b j ∙ e))
-            (λ w.
+              either (C .made j (let x = held-is a b j in omega arith))
+              (λ e. inl (held-is a b j ∙ e))
+              (λ w.
               inr (record {
-                mid = w .mid; under-a = w .under-a; under-b = w .under-b; to-a = w .to-a; to-b = w .to-b;
-                sum = rw (held-is a b j, held-is a (w .mid) (J .turn (w .to-a)), held-is (w .mid) b (w .to-b)) (w .sum)
-              }))
+                mid = w .mid;
+                under-a = w .under-a;
+                under-b = w .under-b;
+                to-a = w .to-a;
+                to-b = w .to-b;
+                sum = rw (held-is a b j, held-is a (w .mid) (J .turn (w .to-a)), held-is (w .mid) b (w .to-b)) (w .sum);
+              }));
         }
 
     module _ (s t : ℕ) where
@@ -184,16 +175,16 @@ module _ {N : Net} {rank first rowHeads up down : List ℕ} (A : Accepted N rank
       far = distance (size N) (linked first rowHeads) heldCost s t
 
       from-start : Labels closed none Joined heldCost s (label (linked first rowHeads) (along Up heldCost) s)
-      from-start = labels heldCost held-small s
+      from-start = labels (linked first rowHeads) heldCost held-small s
 
       from-target : Labels closed none Joined (turned heldCost) t (label (linked first rowHeads) (along Down heldCost) t)
-      from-target = labels (turned heldCost) (λ a b. held-small b a) t
+      from-target = labels (linked first rowHeads) (turned heldCost) (λ a b. held-small b a) t
 
       meets : Meets (size N) none (label (linked first rowHeads) (along Up heldCost) s) (label (linked first rowHeads) (along Down heldCost) t) far
       meets =
           record {
             least = distance-le (size N) (linked first rowHeads) heldCost s t;
-            made = distance-made (size N) (linked first rowHeads) heldCost s t
+            made = distance-made (size N) (linked first rowHeads) heldCost s t;
           }
 
       -- the distance between two positions is that of a walk
@@ -212,5 +203,5 @@ module _ {N : Net} {rank first rowHeads up down : List ℕ} (A : Accepted N rank
       far-some l p =
           let few = A .few in
           let (x, q, c, b) =
-              bounded {M = greatest} (λ u v r. joins .below (joins .turn (joins .roads r))) (λ u v r. road-lawful u v (road-open u v r) .1) l p in
+          bounded {M = greatest} (λ u v r. joins .below (joins .turn (joins .roads r))) (λ u v r. road-lawful u v (road-open u v r) .1) l p in
           omega (arith, far-least l q, mul-le-mul-right greatest few)

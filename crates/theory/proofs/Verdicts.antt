@@ -31,7 +31,6 @@ at-passes k f n i e h t =
     (λ d. passes-fails (sym (rw d at e)))
     (λ d. lowest-before f 0 n i (omega arith) (let x = ltb-false (lowest f 0 n) n d in omega arith) t)
 
-
 -- a check of places that finds no fault passes
 pub passes-at : (k : ℕ) (f : ℕ → Bool) (n : ℕ) → ((i : ℕ) → i < n → T (f i) → ⊥) → failsAt k f n ≡ passes
 passes-at k f n none =

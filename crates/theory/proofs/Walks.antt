@@ -29,9 +29,10 @@ module _ (N : Net) where
       let c = eqb (tail N i) u in
       let d = isWalk N (head N i) is v in
       let abc : T (a && b && c) = and-l (a && b && c) d t in
-      let ab : T (a && b) = and-l (a && b) c abc in
-      ((record { listed = ltb-e i (arcs N) (and-l a b ab); in-force = and-r a b ab; tail-is = eqb-e (tail N i) u (and-r (a && b) c abc); head-is = refl }),
-      and-r (a && b && c) d t)
+      let ab : T (a && b) = and-l (a && b) c abc in (
+        (record { listed = ltb-e i (arcs N) (and-l a b ab); in-force = and-r a b ab; tail-is = eqb-e (tail N i) u (and-r (a && b) c abc); head-is = refl }),
+        and-r (a && b && c) d t,
+      )
 
   pub walk-more : (u v w i : ℕ) (is : List ℕ) → OpenArc N u w i → T (isWalk N w is v) → T (isWalk N u (i ∷ is) v)
   unfolding isWalk
@@ -59,10 +60,11 @@ module _ (N : Net) where
       (subst (λ l. T (isWalk N (junction N b) l (junction N b))) (sym e) (walk-stay (junction N b) (junction N b) refl), ap (walkCost N) e ∙ sym f)
   drive-walk {a = a} {b = c} {w = x} {is = js} (leg {b = b} {w = w} {is = is} r d e f) =
       let o = between-arc N a b r in
-      let t = drive-walk d in
-      (subst (λ l. T (isWalk N (junction N a) l (junction N c))) (sym e)
-        (walk-more (junction N a) (junction N c) (junction N b) (arcBetween N a b) is (o .1) (t .0)),
-      ap (walkCost N) e ∙ (let g = t .1 in let h = o .2 in omega arith))
+      let t = drive-walk d in (
+        subst (λ l. T (isWalk N (junction N a) l (junction N c))) (sym e)
+            (walk-more (junction N a) (junction N c) (junction N b) (arcBetween N a b) is (o .1) (t .0)),
+        ap (walkCost N) e ∙ (let g = t .1 in let h = o .2 in omega arith),
+      )
 
   -- a drive between positions is a way between them, which passes the same junctions and has as many steps as there are arcs
   pub drive-way : {a b w : ℕ} {is : List ℕ} → ((u v : ℕ) → roadBetween N u v ≢ closed → roadBetween N u v < closed)
@@ -72,10 +74,11 @@ module _ (N : Net) where
   drive-way {b = b} f (stop e g) = (stay g, ap (passed N (junction N b)) e, ap length e)
   drive-way {a = a} {w = x} {is = js} f (leg {b = b} {is = is} r d e g) =
       let (p, q, l) = drive-way f d in
-      let o = between-arc N a b r .1 in
-      (go {x = x} (f a b r) p g,
-      ap (passed N (junction N a)) e ∙ ap (λ l. junction N a ∷ l) (ap (λ u. passed N u is) (o .head-is) ∙ q),
-      ap length e ∙ ap suc l)
+      let o = between-arc N a b r .1 in (
+        go {x = x} (f a b r) p g,
+        ap (passed N (junction N a)) e ∙ ap (λ l. junction N a ∷ l) (ap (λ u. passed N u is) (o .head-is) ∙ q),
+        ap length e ∙ ap suc l,
+      )
 
   -- a way between positions can be driven
   pub way-drive : {a b w : ℕ} → Walk closed (roadBetween N) a b w → (is : List ℕ) × Drive (roadBetween N) (arcBetween N) a b is w
@@ -104,7 +107,7 @@ module _ (N : Net) where
         let apart : a ≢ b = λ e. force-apart N i (o .in-force) (o .tail-is ∙ sym ja ∙ ap (junction N) e ∙ jb) in
         let two = two-i N a b (I .position u h) (I .position y l) apart in
         let c : roadBetween N a b ≤ arcCost N i =
-            arc-between N a b i two (record { listed = o .listed; in-force = o .in-force; tail-is = o .tail-is ∙ sym ja; head-is = sym jb }) in
+        arc-between N a b i two (record { listed = o .listed; in-force = o .in-force; tail-is = o .tail-is ∙ sym ja; head-is = sym jb }) in
         let g = finite i (o .listed) (force-open N i (o .in-force)) in
         let (x, p, k) = walk-way is y v l r in
         (roadBetween N a b + x, go {s = a} {u = b} {x = roadBetween N a b + x} (omega arith) p refl, omega arith)
