@@ -1,6 +1,7 @@
 -- P1 to P10 of document 01, and our own examples, hold of the written definitions: each computes. Assumes nothing.
 use mathlib.Core.Path.{refl}
 use Rattle.rules.specs.Net.{rankList}
+use Rattle.rules.specs.Hierarchy.{isHierarchy}
 use Rattle.rules.specs.Calls.{distanceLeaves, routeLeaves}
 use Rattle.rules.specs.Examples.{AllHold, paper, ours, builtBy, customisedBy}
 
@@ -48,7 +49,7 @@ paper-holds = (
 )
 
 pub ours-hold : AllHold ours
-unfolding ours builtBy customisedBy distanceLeaves routeLeaves rankList
+unfolding ours builtBy customisedBy distanceLeaves routeLeaves rankList isHierarchy
 ours-hold = (
   (refl, refl),
   (
@@ -65,7 +66,7 @@ ours-hold = (
               refl,
               (
                 refl,
-                tt,
+                (refl, (refl, (refl, (refl, (refl, (refl, (refl, (refl, (refl, (refl, (refl, tt))))))))))),
               ),
             ),
           ),

@@ -2,12 +2,13 @@
 -- Each is asked of the calls' own definitions. Assumes nothing.
 use Prim.Native.Nat.{ℕ, suc}
 use mathlib.Core.Path.{_≡_}
+use mathlib.Core.Bool.{Bool, true, false}
 use mathlib.Core.List.{List, [], _∷_, _++_}
 use lib.ListN.{length, replicate}
 use Rattle.rules.specs.Costs.{closed, sumOf, costOf}
 use Rattle.rules.specs.Replies.{Reply, edges, done, far, drive, noWalk}
 use Rattle.rules.specs.Net.{Net, net, rankList}
-use Rattle.rules.specs.Route.{routeList}
+use Rattle.rules.specs.Hierarchy.{isHierarchy}
 use Rattle.rules.specs.Calls.{BuildLeaves, CustomiseLeaves, buildLeaves, customiseLeaves, distanceLeaves, routeLeaves, buildLeft, customiseLeft, distanceLeft, routeLeft}
 
 -- what stands in the rooms before a call: no call may rely on it
@@ -34,9 +35,11 @@ pub data Claim : Type 0 where
   goes : Net → ℕ → ℕ → ℕ → ℕ → List ℕ → Claim
   nowhere : Net → ℕ → ℕ → ℕ → Claim
   addsUp : ℕ → ℕ → ℕ → Claim
+  tested : List ℕ → List ℕ → List ℕ → List ℕ → Bool → Claim
 
 -- the claims' meaning. E, first and heads; the up and the down list; from one junction to another a distance and the arcs of the route, by
--- distance and by route, with a place more than the route needs; no walk; the sum of two costs
+-- distance and by route, with a place more than the route needs; no walk; the sum of two costs;
+-- whether an order, a rank list, first and heads are a hierarchy
 abbrev pub Holds : Claim → Type 0
 Holds (hasRows N room e first heads) = builtBy N room ≡ buildLeft (rankList (N .order)) first heads (edges e)
 Holds (hasCosts N room up down) = customisedBy N room ≡ customiseLeft up down done
@@ -53,6 +56,7 @@ Holds (nowhere N room from to) =
     × (routeLeaves N (b .rank) (b .first) (b .heads) (c .up) (c .down) from to (stale 2)
     ≡ routeLeft (closed ∷ closed ∷ []) noWalk)
 Holds (addsUp a b c) = sumOf (costOf a) (costOf b) ≡ costOf c
+Holds (tested order rank first heads b) = isHierarchy order rank first heads ≡ b
 
 -- every claim of a list holds
 abbrev pub AllHold : List Claim → Type 0
@@ -123,4 +127,21 @@ ours =
     -- "A sum with CLOSED is CLOSED"
     ∷ addsUp closed 3 closed
     ∷ addsUp 3 4 7
+    -- "A set of lists is a hierarchy when": one that is, with a place of heads past first[n] that nobody looks at
+    ∷ tested (2 ∷ 0 ∷ 1 ∷ []) (1 ∷ 2 ∷ 0 ∷ []) (0 ∷ 2 ∷ 3 ∷ 3 ∷ []) (1 ∷ 2 ∷ 2 ∷ 9 ∷ []) true
+    -- "the rank list has length n and inverts the order"
+    ∷ tested (2 ∷ 0 ∷ 1 ∷ []) (1 ∷ 2 ∷ 0 ∷ 0 ∷ []) (0 ∷ 2 ∷ 3 ∷ 3 ∷ []) (1 ∷ 2 ∷ 2 ∷ []) false
+    ∷ tested (2 ∷ 0 ∷ 1 ∷ []) (2 ∷ 0 ∷ 1 ∷ []) (0 ∷ 2 ∷ 3 ∷ 3 ∷ []) (1 ∷ 2 ∷ 2 ∷ []) false
+    -- "first has length n + 1, starts with 0 and never falls"
+    ∷ tested (0 ∷ 1 ∷ 2 ∷ []) (0 ∷ 1 ∷ 2 ∷ []) (0 ∷ 2 ∷ 3 ∷ 3 ∷ 3 ∷ []) (1 ∷ 2 ∷ 2 ∷ []) false
+    ∷ tested (0 ∷ 1 ∷ 2 ∷ []) (0 ∷ 1 ∷ 2 ∷ []) (1 ∷ 2 ∷ 3 ∷ 3 ∷ []) (1 ∷ 2 ∷ 2 ∷ []) false
+    ∷ tested (0 ∷ 1 ∷ 2 ∷ []) (0 ∷ 1 ∷ 2 ∷ []) (0 ∷ 1 ∷ 0 ∷ 1 ∷ []) (1 ∷ 2 ∷ 2 ∷ []) false
+    -- "first[n] is at most the length of heads"
+    ∷ tested (0 ∷ 1 ∷ 2 ∷ []) (0 ∷ 1 ∷ 2 ∷ []) (0 ∷ 2 ∷ 3 ∷ 3 ∷ []) (1 ∷ 2 ∷ []) false
+    -- "each row is strictly ascending, above its position and below n"
+    ∷ tested (0 ∷ 1 ∷ 2 ∷ []) (0 ∷ 1 ∷ 2 ∷ []) (0 ∷ 2 ∷ 3 ∷ 3 ∷ []) (1 ∷ 1 ∷ 2 ∷ []) false
+    ∷ tested (0 ∷ 1 ∷ 2 ∷ []) (0 ∷ 1 ∷ 2 ∷ []) (0 ∷ 2 ∷ 3 ∷ 3 ∷ []) (1 ∷ 2 ∷ 1 ∷ []) false
+    ∷ tested (0 ∷ 1 ∷ 2 ∷ []) (0 ∷ 1 ∷ 2 ∷ []) (0 ∷ 1 ∷ 1 ∷ 1 ∷ []) (3 ∷ []) false
+    -- "every entry of a row but its first stands in the parent's row too"
+    ∷ tested (0 ∷ 1 ∷ 2 ∷ []) (0 ∷ 1 ∷ 2 ∷ []) (0 ∷ 2 ∷ 2 ∷ 2 ∷ []) (1 ∷ 2 ∷ []) false
     ∷ []

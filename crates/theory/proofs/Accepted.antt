@@ -17,7 +17,7 @@ use Rattle.rules.specs.Calls.{customiseChecks, distanceChecks, routeChecks}
 use Rattle.theory.proofs.Ranks.{Ordered, Inverse, ordered, inverse}
 use Rattle.theory.proofs.Rows.{Rows, rows, ranked}
 use Rattle.theory.proofs.Verdicts.{first-passes, if-passes, at-passes}
-use Rattle.theory.proofs.Laws.{either, split, true-holds, or-l, or-r, and-i, not-i, not-e, neb-i, eqb-e, eqb-i, ltb-i, leb-i}
+use Rattle.theory.proofs.Laws.{either, split, true-holds, holds-true, or-l, or-r, and-i, not-i, not-e, neb-i, eqb-e, eqb-i, ltb-i, leb-i}
 
 -- ---- what each check establishes
 
@@ -82,6 +82,10 @@ passes7 order rank first heads e =
     let b = isHierarchy order rank first heads in
     let f = if-passes 7 (not b) e in
     either (split b) (λ d. true-holds b d) (λ d. absurd (f (subst (λ x. T (not x)) (sym d) tt)))
+
+pub hierarchy-passes : (order rank first heads : List ℕ) → T (isHierarchy order rank first heads) → check7 order rank first heads ≡ passes
+unfolding check7
+hierarchy-passes order rank first heads t = rw (holds-true (isHierarchy order rank first heads) t) refl
 
 pub passes8 : (tails heads rank first rowHeads : List ℕ) → check8 tails heads rank first rowHeads ≡ passes → (i : ℕ) → i < length tails
     → getD tails i 0 ≢ getD heads i 0 → T (linked first rowHeads (getD rank (getD tails i 0) 0) (getD rank (getD heads i 0) 0))
