@@ -5,6 +5,13 @@ ghost use mathlib.Core.Path.{_≡_};
 ghost use Rattle.rules.specs.Costs.{sumOf, leastOf};
 ghost use Rattle.rules.specs.Replies.{refusalNumber, refusalPlace, buildReply, customiseReply, distanceReply, routeReply, numberTold, placeTold, edgesTold, distanceTold, arcsTold};
 
+// A number of a list as an index.
+pub fn wide(x: u32) -> usize
+    ensures { λ r. ⌜ r ≡ x ⌝ }
+{
+    x as usize
+}
+
 // A cost in tenths of a second, or CLOSED.
 pub struct Cost(pub u32);
 

@@ -1,14 +1,14 @@
 -- What a check's verdict tells: it passes exactly if there is no fault. Assumes nothing.
-use Prim.Native.Nat.{ℕ, zero, suc, _≤_, _<_}
-use mathlib.Core.Path.{_≡_, refl, sym}
+use Prim.Native.Nat.{ℕ, zero, suc, _+_, _≤_, _<_}
+use mathlib.Core.Path.{_≡_, refl, sym, subst}
 use mathlib.Core.Bool.{Bool, true, false, cond}
 use mathlib.Core.List.{List, [], _∷_}
 use native.Mathlib.Omega.{arith}
-use lib.Dec.{T, ltb}
-use borrow.Author.Tests.{ltb-false}
+use lib.Dec.{T, eqb, ltb}
+use borrow.Author.Tests.{ltb-false, lt-ltb, eqb-true, eqb-false}
 use Rattle.rules.specs.Words.{lowest}
 use Rattle.rules.specs.Refusals.{Verdict, passes, fails, firstFailure, failsIf, failsAt}
-use Rattle.theory.proofs.Laws.{lowest-before, lowest-none, either, split, cond-false, ltb-e}
+use Rattle.theory.proofs.Laws.{lowest-is, lowest-before, lowest-none, either, split, cond-false, ltb-e}
 
 -- a check that passes and one that fails are two things
 pub passes-fails : {A : Type 0} {k p : ℕ} → passes ≡ fails k p → A
@@ -36,3 +36,33 @@ pub passes-at : (k : ℕ) (f : ℕ → Bool) (n : ℕ) → ((i : ℕ) → i < n 
 passes-at k f n none =
     cond-false (ltb (lowest f 0 n) n) (fails k (lowest f 0 n)) passes
     (λ t. omega (arith, ltb-e (lowest f 0 n) n t, lowest-none f 0 n (λ q l h. none q (omega arith))))
+
+-- ---- a check that goes through the places from the lowest up
+
+-- no fault before place i, of n
+pub record Faultless (f : ℕ → Bool) (n i : ℕ) : Type 0 where
+  pub within : i ≤ n
+  pub none : (q : ℕ) → q < i → T (f q) → ⊥
+
+pub faultless-start : (f : ℕ → Bool) (n : ℕ) → Faultless f n 0
+faultless-start f n = record { within = omega arith; none = λ q h t. omega arith }
+
+pub faultless-more : {f : ℕ → Bool} {n i : ℕ} → Faultless f n i → i < n → (T (f i) → ⊥) → Faultless f n (i + 1)
+faultless-more {f} {n} {i} s h t =
+    record {
+      within = omega arith;
+      none = λ q l u.
+        either (split (eqb q i))
+        (λ e. t (subst (λ x. T (f x)) (eqb-true q i e) u))
+        (λ e. s .none q (omega (arith, eqb-false q i e)) u)
+    }
+
+-- a fault there is the lowest
+pub faultless-fails : (k : ℕ) {f : ℕ → Bool} {n i : ℕ} → Faultless f n i → i < n → T (f i) → fails k i ≡ failsAt k f n
+faultless-fails k {f} {n} {i} s h t =
+    let e : lowest f 0 n ≡ i = lowest-is f 0 n i (omega arith) (omega arith) t (λ q l m. s .none q m) in
+    rw (e, lt-ltb i n h) refl
+
+-- none up to the end
+pub faultless-passes : (k : ℕ) {f : ℕ → Bool} {n i : ℕ} → Faultless f n i → n ≤ i → passes ≡ failsAt k f n
+faultless-passes k {f} {n} {i} s h = sym (passes-at k f n (λ q l t. s .none q (omega arith) t))
