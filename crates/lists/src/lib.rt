@@ -5,10 +5,9 @@ ghost use mathlib.Core.Path.{_≡_};
 ghost use mathlib.Core.List.{[], _∷_};
 ghost use lib.ListN.{length, getD, set};
 ghost use Rattle.rules.specs.Net.{rankList};
-ghost use Rattle.rules.specs.Refusals.{check1, check2, check3, check4, check5, check9, check10, check11};
+ghost use Rattle.rules.specs.Refusals.{check1, check2, check3, check4, check5, unlawful, check9, check10, check11};
 ghost use Rattle.theory.proofs.Ranks.{Ordered};
 ghost use Rattle.lists.specs.Lent.{verdict, foundIn, part, chosen};
-
 use rules::Cost;
 use rules::Direction;
 use rules::Found;
@@ -131,20 +130,28 @@ pub fn check_rooms(n: usize, rank: &[u32], first: &[u32]) -> Check
     Check::Passes
 }
 
+// A cost that is neither CLOSED nor from 1 to the greatest.
+pub fn is_unlawful(cost: Cost) -> bool
+    ensures { λ r. ⌜ r ≡ unlawful (cost .0) ⌝ }
+{
+    let c = cost.0;
+    if c == 0 {
+        return true;
+    }
+    if c <= Cost::GREATEST.0 {
+        return false;
+    }
+    c != Cost::CLOSED.0
+}
+
 // 9: every arc cost is CLOSED, or from 1 to the greatest.
 pub fn check_costs(costs: &[u32]) -> Check
     ensures { λ r. ⌜ verdict r ≡ check9 (now (costs .entry)) ⌝ }
 {
     let mut i = 0;
     while i < costs.len() {
-        let c = costs[i];
-        if c == 0 {
+        if is_unlawful(Cost(costs[i])) {
             return Check::Fails(Refusal::ArcCost(i));
-        }
-        if Cost::GREATEST.0 < c {
-            if c != Cost::CLOSED.0 {
-                return Check::Fails(Refusal::ArcCost(i));
-            }
         }
         i += 1;
     }
@@ -212,7 +219,13 @@ pub fn find_in_row(heads: &[u32], from: usize, to: usize, y: Position) -> Found
 }
 
 // A row's costs: a part of the up list or of the down list, by direction, and no copy of either.
-pub fn row_costs<'a>(up: &'a [u32], down: &'a [u32], d: Direction, from: usize, to: usize) -> &'a [u32]
+pub fn row_costs<'a>(
+    up: &'a [u32],
+    down: &'a [u32],
+    d: Direction,
+    from: usize,
+    to: usize,
+) -> &'a [u32]
     requires { ⌜ (from ≤ to) × (to ≤ length (now up)) × (to ≤ length (now down)) ⌝ }
     ensures { λ r. ⌜ now r ≡ part from to (chosen d (now (up .entry)) (now (down .entry))) ⌝ }
 {

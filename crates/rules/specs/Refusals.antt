@@ -77,12 +77,12 @@ check8 tails heads rank first rowHeads =
     (length tails)
 
 -- 9: "an arc cost is 0, or over 500,000 and not CLOSED"
+abbrev pub unlawful : ℕ → Bool
+unlawful cost = eqb cost 0 || (ltb greatest cost && not (eqb cost closed))
+
 unfoldable pub check9 : List ℕ → Verdict
 unfolding lowest
-check9 costs =
-    failsAt 9
-    (λ i. eqb (getD costs i 0) 0 || (ltb greatest (getD costs i 0) && not (eqb (getD costs i 0) closed)))
-    (length costs)
+check9 costs = failsAt 9 (λ i. unlawful (getD costs i 0)) (length costs)
 
 -- 10: "up or down list is shorter than E"
 unfoldable pub check10 : ℕ → List ℕ → List ℕ → Verdict

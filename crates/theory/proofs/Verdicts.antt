@@ -52,9 +52,9 @@ faultless-more {f} {n} {i} s h t =
     record {
       within = omega arith;
       none = λ q l u.
-        either (split (eqb q i))
-        (λ e. t (subst (λ x. T (f x)) (eqb-true q i e) u))
-        (λ e. s .none q (omega (arith, eqb-false q i e)) u)
+          either (split (eqb q i))
+          (λ e. t (subst (λ x. T (f x)) (eqb-true q i e) u))
+          (λ e. s .none q (omega (arith, eqb-false q i e)) u);
     }
 
 -- a fault there is the lowest

@@ -1,50 +1,34 @@
+-- `check_costs` meets its contract: no fault before arc i. Assumes nothing.
 use borrow.Author.Needs.{needs}
+use Rattle.theory.proofs.Laws.{true-holds, true-false, holds-true}
+use mathlib.Core.Path.{_≡_, sym, ap, _∙_}
+use Prim.Native.Nat.{_≤_, _-_}
+use lib.ListN.{length, getD}
+use Rattle.theory.proofs.Verdicts.{Faultless, faultless-start, faultless-more, faultless-fails, faultless-passes}
+use native.Mathlib.Omega.{arith}
+use Rattle.rules.specs.Refusals.{unlawful, check9}
 use Rattle.lists.proofs.check_costs.Statement.{statement}
 use Rattle.lists.proofs.check_costs.Tie as tie
-use Rattle.lists.proofs.check_costs.Reads as reads
-use Rattle.lists.proofs.check_costs.Lts as lts
 
 abbrev Inv-loop : tie.InvT-loop
-Inv-loop costs i₀ i = ?
+Inv-loop costs i₀ i = Faultless (λ k. unlawful (getD costs k 0)) (length costs) i
 
 abbrev μ-loop : tie.MeasureT-loop
-μ-loop costs i₀ i = ?
+μ-loop costs i₀ i = length costs - i
 
--- src/lib.rt:145:5
 loop-holds : tie.Need-loop-holds Inv-loop μ-loop
-loop-holds c = search needs
+loop-holds c = faultless-start (λ k. unlawful (getD (c .before .args .costs .now) k 0)) (length (c .before .args .costs .now))
 
--- src/lib.rt:146:17
-mul-c : tie.Need-mul-c Inv-loop μ-loop
-mul-c c = search needs
-
--- src/lib.rt:146:17
-shared-slice-read-c : tie.Need-shared-slice-read-c Inv-loop μ-loop
-shared-slice-read-c c = search needs
-
--- src/lib.rt:148:13
 returns : tie.Need-returns Inv-loop μ-loop
-returns c = search needs
+unfolding check9
+returns c = let x = getD (c .before .before .before .before .before .before .args .costs .now) (c .before .before .before .before .loop .i) 0 in faultless-fails 9 (c .before .before .before .before .loop .inv) (c .before .before .before .loop-test .taken) (true-holds (unlawful x) (sym (c .before .is-unlawful .ensures) ∙ c .if1 .taken))
 
--- src/lib.rt:152:17
-returns-2 : tie.Need-returns-2 Inv-loop μ-loop
-returns-2 c = search needs
-
--- src/lib.rt:155:9
-add-i : tie.Need-add-i Inv-loop μ-loop
-add-i c = search needs
-
--- src/lib.rt:145:5
-loop-less : tie.Need-loop-less Inv-loop μ-loop
-loop-less c = search needs
-
--- src/lib.rt:145:5
 loop-again : tie.Need-loop-again Inv-loop μ-loop
-loop-again c = search needs
+loop-again c = let x = getD (c .before .before .before .before .before .before .args .costs .now) (c .before .before .before .before .loop .i) 0 in faultless-more (c .before .before .before .before .loop .inv) (c .before .before .before .loop-test .taken) (λ t. true-false (sym (holds-true (unlawful x) t) ∙ sym (c .before .is-unlawful .ensures) ∙ c .if1 .left))
 
--- src/lib.rt:141:1
-returns-3 : tie.Need-returns-3 Inv-loop μ-loop
-returns-3 c = search needs
+returns-2 : tie.Need-returns-2 Inv-loop μ-loop
+unfolding check9
+returns-2 c = faultless-passes 9 (c .before .loop .inv) (c .loop-test .left)
 
 pub check-costs-spec : {M : Type 1} → statement M
 check-costs-spec =
@@ -53,11 +37,11 @@ check-costs-spec =
     Inv-loop
     μ-loop
     loop-holds
-    mul-c
-    shared-slice-read-c
+    (λ c. search needs)
+    (λ c. search needs)
+    (λ c κs. search needs)
     returns
-    returns-2
-    add-i
-    loop-less
+    (λ c. search needs)
+    (λ c. search needs)
     loop-again
-    returns-3)
+    returns-2)

@@ -1,67 +1,37 @@
+-- `check_ends` meets its contract: no fault before place i. Assumes nothing.
 use borrow.Author.Needs.{needs}
+use Prim.Native.Nat.{_≤_, _-_}
+use lib.ListN.{length}
+use Rattle.theory.proofs.Verdicts.{Faultless, faultless-start, faultless-more, faultless-fails, faultless-passes}
+use native.Mathlib.Omega.{arith}
+use Rattle.rules.specs.Refusals.{check3}
+use Rattle.lists.proofs.ListLaws.{endFault, tail-fault, head-fault, ends-good}
 use Rattle.lists.proofs.check_ends.Statement.{statement}
 use Rattle.lists.proofs.check_ends.Tie as tie
-use Rattle.lists.proofs.check_ends.Reads as reads
-use Rattle.lists.proofs.check_ends.Lts as lts
-use Rattle.rules.proofs.wide.Reads as wide-reads
 
 abbrev Inv-loop : tie.InvT-loop
-Inv-loop n tails heads i₀ i = ?
+Inv-loop n tails heads i₀ i = Faultless (endFault n tails heads) (length tails) i
 
 abbrev μ-loop : tie.MeasureT-loop
-μ-loop n tails heads i₀ i = ?
+μ-loop n tails heads i₀ i = length tails - i
 
--- src/lib.rt:80:5
 loop-holds : tie.Need-loop-holds Inv-loop μ-loop
-loop-holds c = search needs
+loop-holds c = faultless-start (endFault (c .before .before .args .n) (c .before .before .args .tails .now) (c .before .before .args .heads .now)) (length (c .before .before .args .tails .now))
 
--- src/lib.rt:81:22
-mul-wide : tie.Need-mul-wide Inv-loop μ-loop
-mul-wide c = search needs
-
--- src/lib.rt:81:22
-shared-slice-read-wide : tie.Need-shared-slice-read-wide Inv-loop μ-loop
-shared-slice-read-wide c = search needs
-
--- src/lib.rt:81:17
-wide-requires : tie.Need-wide-requires Inv-loop μ-loop
-wide-requires c κs = search needs
-
--- src/lib.rt:82:13
 returns : tie.Need-returns Inv-loop μ-loop
-returns c = search needs
+unfolding check3
+returns c = let a = c .before .before .before .before .before .before .before .args in let l = c .before .before .before .before .loop in faultless-fails 3 (l .inv) (c .before .before .before .loop-test .taken) (tail-fault (a .n) (a .tails .now) (a .heads .now) (l .i) (omega (arith, c .before .wide .ensures, c .if1 .taken)))
 
--- src/lib.rt:84:22
-mul-wide-2 : tie.Need-mul-wide-2 Inv-loop μ-loop
-mul-wide-2 c = search needs
-
--- src/lib.rt:84:22
-shared-slice-read-wide-2 : tie.Need-shared-slice-read-wide-2 Inv-loop μ-loop
-shared-slice-read-wide-2 c = search needs
-
--- src/lib.rt:84:17
-wide-requires-2 : tie.Need-wide-requires-2 Inv-loop μ-loop
-wide-requires-2 c κs = search needs
-
--- src/lib.rt:85:13
 returns-2 : tie.Need-returns-2 Inv-loop μ-loop
-returns-2 c = search needs
+unfolding check3
+returns-2 c = let a = c .before .before .before .before .before .before .before .before .before .before .args in let l = c .before .before .before .before .before .before .before .loop in faultless-fails 3 (l .inv) (c .before .before .before .before .before .before .loop-test .taken) (head-fault (a .n) (a .tails .now) (a .heads .now) (l .i) (omega (arith, c .before .wide2 .ensures, c .if2 .taken)))
 
--- src/lib.rt:87:9
-add-i : tie.Need-add-i Inv-loop μ-loop
-add-i c = search needs
-
--- src/lib.rt:80:5
-loop-less : tie.Need-loop-less Inv-loop μ-loop
-loop-less c = search needs
-
--- src/lib.rt:80:5
 loop-again : tie.Need-loop-again Inv-loop μ-loop
-loop-again c = search needs
+loop-again c = let a = c .before .before .before .before .before .before .before .before .before .before .args in let l = c .before .before .before .before .before .before .before .loop in faultless-more (l .inv) (c .before .before .before .before .before .before .loop-test .taken) (ends-good (a .n) (a .tails .now) (a .heads .now) (l .i) (omega (arith, c .before .before .before .before .wide .ensures, c .before .before .before .if1 .left)) (omega (arith, c .before .wide2 .ensures, c .if2 .left)))
 
--- src/lib.rt:75:1
 returns-3 : tie.Need-returns-3 Inv-loop μ-loop
-returns-3 c = search needs
+unfolding check3
+returns-3 c = faultless-passes 3 (c .before .loop .inv) (c .loop-test .left)
 
 pub check-ends-spec : {M : Type 1} → statement M
 check-ends-spec =
@@ -70,15 +40,15 @@ check-ends-spec =
     Inv-loop
     μ-loop
     loop-holds
-    mul-wide
-    shared-slice-read-wide
-    wide-requires
+    (λ c. search needs)
+    (λ c. search needs)
+    (λ c κs. search needs)
     returns
-    mul-wide-2
-    shared-slice-read-wide-2
-    wide-requires-2
+    (λ c. search needs)
+    (λ c. search needs)
+    (λ c κs. search needs)
     returns-2
-    add-i
-    loop-less
+    (λ c. search needs)
+    (λ c. search needs)
     loop-again
     returns-3)

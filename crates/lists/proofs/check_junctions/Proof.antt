@@ -2,18 +2,13 @@ use borrow.Author.Needs.{needs}
 use Rattle.lists.proofs.ListLaws.{none-fails, many-fails, count-passes}
 use Rattle.lists.proofs.check_junctions.Statement.{statement}
 use Rattle.lists.proofs.check_junctions.Tie as tie
-use Rattle.lists.proofs.check_junctions.Reads as reads
-use Rattle.lists.proofs.check_junctions.Lts as lts
 
--- src/lib.rt:37:9
 returns : tie.Need-returns
 returns c = none-fails (c .before .args .n) (c .if1 .taken)
 
--- src/lib.rt:40:9
 returns-2 : tie.Need-returns-2
 returns-2 c = many-fails (c .before .before .args .n) (c .if2 .taken)
 
--- src/lib.rt:33:1
 returns-3 : tie.Need-returns-3
 returns-3 c = count-passes (c .before .before .args .n) (c .before .if1 .left) (c .if2 .left)
 

@@ -1,66 +1,38 @@
+-- `check_order` meets its contract: no fault before position p, and `seen` has the junctions that stand there. Assumes nothing.
 use borrow.Author.Needs.{needs}
+use Rattle.theory.proofs.Verdicts.{Faultless, faultless-start, faultless-more, faultless-fails, faultless-passes}
+use native.Mathlib.Omega.{arith}
+use Rattle.rules.specs.Refusals.{check4}
+use Rattle.lists.proofs.ListLaws.{orderFault, Seen, seen-none, seen-more, large-fault, twice-fault, entry-good}
 use Prim.Native.Nat.{_≤_, _-_}
 use lib.ListN.{length}
 use Rattle.lists.proofs.ListLaws.{Seen}
 use Rattle.lists.proofs.check_order.Statement.{statement}
 use Rattle.lists.proofs.check_order.Tie as tie
-use Rattle.lists.proofs.check_order.Reads as reads
-use Rattle.lists.proofs.check_order.Lts as lts
-use Rattle.rules.proofs.wide.Reads as wide-reads
 
 abbrev Inv-loop : tie.InvT-loop
-Inv-loop order seen₀ p₀ seen p = (p ≤ length order) × Seen order p seen
+Inv-loop order seen₀ p₀ seen p = Faultless (orderFault order) (length order) p × Seen order p seen
 
 abbrev μ-loop : tie.MeasureT-loop
 μ-loop order seen₀ p₀ seen p = length order - p
 
--- src/lib.rt:99:5
 loop-holds : tie.Need-loop-holds Inv-loop μ-loop
-loop-holds c = ?
+loop-holds c = (faultless-start (orderFault (c .before .args .order .now)) (length (c .before .args .order .now)), seen-none (c .before .args .order .now))
 
--- src/lib.rt:100:22
-mul-wide : tie.Need-mul-wide Inv-loop μ-loop
-mul-wide c = search needs
-
--- src/lib.rt:100:22
-shared-slice-read-wide : tie.Need-shared-slice-read-wide Inv-loop μ-loop
-shared-slice-read-wide c = search needs
-
--- src/lib.rt:100:13
-wide-requires : tie.Need-wide-requires Inv-loop μ-loop
-wide-requires c κs = search needs
-
--- src/lib.rt:102:13
 returns : tie.Need-returns Inv-loop μ-loop
-returns c = search needs
+unfolding check4
+returns c = let a = c .before .before .before .before .before .before .args in let l = c .before .before .before .before .loop in faultless-fails 4 (l .inv .0) (c .before .before .before .loop-test .taken) (large-fault (a .order .now) (l .p) (c .before .wide .result) (c .before .wide .ensures) (c .if1 .taken))
 
--- src/lib.rt:104:12
-array-read-if2 : tie.Need-array-read-if2 Inv-loop μ-loop
-array-read-if2 c = search needs
-
--- src/lib.rt:105:13
 returns-2 : tie.Need-returns-2 Inv-loop μ-loop
-returns-2 c = ?
+unfolding check4
+returns-2 c = let a = c .before .before .before .before .before .before .before .args in let l = c .before .before .before .before .before .loop in faultless-fails 4 (l .inv .0) (c .before .before .before .before .loop-test .taken) (twice-fault (c .before .before .wide .result) (l .inv .1) (c .before .before .wide .ensures) (omega (arith, c .before .if1 .left, c .before .before .before .before .before .before .before .pre)) (c .if2 .taken))
 
--- src/lib.rt:107:9
-array-write-seen : tie.Need-array-write-seen Inv-loop μ-loop
-array-write-seen c = search needs
-
--- src/lib.rt:108:9
-add-p : tie.Need-add-p Inv-loop μ-loop
-add-p c = search needs
-
--- src/lib.rt:99:5
-loop-less : tie.Need-loop-less Inv-loop μ-loop
-loop-less c = search needs
-
--- src/lib.rt:99:5
 loop-again : tie.Need-loop-again Inv-loop μ-loop
-loop-again c = ?
+loop-again c = let a = c .before .before .before .before .before .before .before .args in let l = c .before .before .before .before .before .loop in let h = c .before .if1 .left in let n = c .before .before .before .before .before .before .before .pre in (faultless-more (l .inv .0) (c .before .before .before .before .loop-test .taken) (entry-good (c .before .before .wide .result) (l .inv .1) (c .before .before .wide .ensures) h (omega arith) (c .if2 .left)), seen-more (c .before .before .wide .result) (l .inv .1) (c .before .before .wide .ensures) (omega arith))
 
--- src/lib.rt:93:1
 returns-3 : tie.Need-returns-3 Inv-loop μ-loop
-returns-3 c = search needs
+unfolding check4
+returns-3 c = faultless-passes 4 (c .before .loop .inv .0) (c .loop-test .left)
 
 pub check-order-spec : {M : Type 1} → statement M
 check-order-spec =
@@ -69,14 +41,14 @@ check-order-spec =
     Inv-loop
     μ-loop
     loop-holds
-    mul-wide
-    shared-slice-read-wide
-    wide-requires
+    (λ c. search needs)
+    (λ c. search needs)
+    (λ c κs. search needs)
     returns
-    array-read-if2
+    (λ c. search needs)
     returns-2
-    array-write-seen
-    add-p
-    loop-less
+    (λ c. search needs)
+    (λ c. search needs)
+    (λ c. search needs)
     loop-again
     returns-3)

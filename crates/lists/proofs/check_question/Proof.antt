@@ -1,30 +1,19 @@
+-- `check_question` meets its contract. Assumes nothing.
 use borrow.Author.Needs.{needs}
+use native.Mathlib.Omega.{arith}
+use Rattle.lists.proofs.ListLaws.{start-fails, target-fails, question-passes}
 use Rattle.lists.proofs.check_question.Statement.{statement}
 use Rattle.lists.proofs.check_question.Tie as tie
-use Rattle.lists.proofs.check_question.Reads as reads
-use Rattle.lists.proofs.check_question.Lts as lts
-use Rattle.rules.proofs.wide.Reads as wide-reads
 
--- src/lib.rt:177:13
-wide-requires : tie.Need-wide-requires
-wide-requires c κs = search needs
-
--- src/lib.rt:178:9
 returns : tie.Need-returns
-returns c = search needs
+returns c = let q = c .before in start-fails (c .before .before .args .n) (c .before .before .args .from .0) (c .before .before .args .to .0) (omega (arith, q .wide .ensures, c .if1 .taken))
 
--- src/lib.rt:180:13
-wide-requires-2 : tie.Need-wide-requires-2
-wide-requires-2 c κs = search needs
-
--- src/lib.rt:181:9
 returns-2 : tie.Need-returns-2
-returns-2 c = search needs
+returns-2 c = let q = c .before .before .before in let r = c .before in target-fails (c .before .before .before .before .args .n) (c .before .before .before .before .args .from .0) (c .before .before .before .before .args .to .0) (omega (arith, q .wide .ensures, c .before .before .if1 .left)) (omega (arith, r .wide2 .ensures, c .if2 .taken))
 
--- src/lib.rt:174:1
 returns-3 : tie.Need-returns-3
-returns-3 c = search needs
+returns-3 c = let q = c .before .before .before in let r = c .before in question-passes (c .before .before .before .before .args .n) (c .before .before .before .before .args .from .0) (c .before .before .before .before .args .to .0) (omega (arith, q .wide .ensures, c .before .before .if1 .left)) (omega (arith, r .wide2 .ensures, c .if2 .left))
 
 pub check-question-spec : {M : Type 1} → statement M
 check-question-spec =
-    tie.close (tie.spec wide-requires returns wide-requires-2 returns-2 returns-3)
+    tie.close (tie.spec (λ c κs. search needs) returns (λ c κs. search needs) returns-2 returns-3)

@@ -1,24 +1,23 @@
+-- `check_three_lists` meets its contract. Assumes nothing.
 use borrow.Author.Needs.{needs}
+use lib.ListN.{length}
+use mathlib.Core.Path.{_≡_, sym, ap, _∙_}
+use mathlib.Core.List.{[], _∷_}
+use Rattle.lists.proofs.ListLaws.{length-fails, length-on, arcs-fail, arcs-pass}
 use Rattle.lists.proofs.check_three_lists.Statement.{statement}
 use Rattle.lists.proofs.check_three_lists.Tie as tie
-use Rattle.lists.proofs.check_three_lists.Reads as reads
-use Rattle.lists.proofs.check_three_lists.Lts as lts
 
--- src/lib.rt:63:9
 returns : tie.Need-returns
-returns c = search needs
+returns c = let a = c .before .args in length-fails (length (a .tails .now)) (length (a .heads .now)) (length (a .costs .now) ∷ []) (c .if1 .taken)
 
--- src/lib.rt:66:9
 returns-2 : tie.Need-returns-2
-returns-2 c = search needs
+returns-2 c = let a = c .before .before .args in length-fails (length (a .tails .now)) (length (a .costs .now)) [] (c .if2 .taken) ∙ length-on (length (a .tails .now)) (length (a .heads .now)) (length (a .costs .now) ∷ []) (c .before .if1 .left)
 
--- src/lib.rt:69:9
 returns-3 : tie.Need-returns-3
-returns-3 c = search needs
+returns-3 c = let a = c .before .before .before .args in arcs-fail (length (a .tails .now)) (c .if3 .taken) ∙ length-on (length (a .tails .now)) (length (a .costs .now)) [] (c .before .if2 .left) ∙ length-on (length (a .tails .now)) (length (a .heads .now)) (length (a .costs .now) ∷ []) (c .before .before .if1 .left)
 
--- src/lib.rt:59:1
 returns-4 : tie.Need-returns-4
-returns-4 c = search needs
+returns-4 c = let a = c .before .before .before .args in arcs-pass (length (a .tails .now)) (c .if3 .left) ∙ length-on (length (a .tails .now)) (length (a .costs .now)) [] (c .before .if2 .left) ∙ length-on (length (a .tails .now)) (length (a .heads .now)) (length (a .costs .now) ∷ []) (c .before .before .if1 .left)
 
 pub check-three-lists-spec : {M : Type 1} → statement M
 check-three-lists-spec = tie.close (tie.spec returns returns-2 returns-3 returns-4)

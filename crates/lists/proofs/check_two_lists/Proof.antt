@@ -1,20 +1,20 @@
+-- `check_two_lists` meets its contract. Assumes nothing.
 use borrow.Author.Needs.{needs}
+use lib.ListN.{length}
+use mathlib.Core.Path.{_≡_, sym, ap, _∙_}
+use mathlib.Core.List.{[], _∷_}
+use Rattle.lists.proofs.ListLaws.{length-fails, length-on, arcs-fail, arcs-pass}
 use Rattle.lists.proofs.check_two_lists.Statement.{statement}
 use Rattle.lists.proofs.check_two_lists.Tie as tie
-use Rattle.lists.proofs.check_two_lists.Reads as reads
-use Rattle.lists.proofs.check_two_lists.Lts as lts
 
--- src/lib.rt:50:9
 returns : tie.Need-returns
-returns c = search needs
+returns c = length-fails (length (c .before .args .tails .now)) (length (c .before .args .heads .now)) [] (c .if1 .taken)
 
--- src/lib.rt:53:9
 returns-2 : tie.Need-returns-2
-returns-2 c = search needs
+returns-2 c = arcs-fail (length (c .before .before .args .tails .now)) (c .if2 .taken) ∙ length-on (length (c .before .before .args .tails .now)) (length (c .before .before .args .heads .now)) [] (c .before .if1 .left)
 
--- src/lib.rt:46:1
 returns-3 : tie.Need-returns-3
-returns-3 c = search needs
+returns-3 c = arcs-pass (length (c .before .before .args .tails .now)) (c .if2 .left) ∙ length-on (length (c .before .before .args .tails .now)) (length (c .before .before .args .heads .now)) [] (c .before .if1 .left)
 
 pub check-two-lists-spec : {M : Type 1} → statement M
 check-two-lists-spec = tie.close (tie.spec returns returns-2 returns-3)

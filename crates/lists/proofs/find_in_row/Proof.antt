@@ -1,46 +1,28 @@
+-- `find_in_row` meets its contract: not found before place k. Assumes nothing.
 use borrow.Author.Needs.{needs}
+use Prim.Native.Nat.{_≤_, _-_}
+use native.Mathlib.Omega.{arith}
+use Rattle.lists.proofs.ListLaws.{Unfound, unfound-start, unfound-more, found-at, found-none}
 use Rattle.lists.proofs.find_in_row.Statement.{statement}
 use Rattle.lists.proofs.find_in_row.Tie as tie
-use Rattle.lists.proofs.find_in_row.Reads as reads
-use Rattle.lists.proofs.find_in_row.Lts as lts
 
 abbrev Inv-loop : tie.InvT-loop
-Inv-loop heads from to want k₀ k = ?
+Inv-loop heads from to want k₀ k = Unfound heads from to want k
 
 abbrev μ-loop : tie.MeasureT-loop
-μ-loop heads from to want k₀ k = ?
+μ-loop heads from to want k₀ k = to - k
 
--- src/lib.rt:211:5
 loop-holds : tie.Need-loop-holds Inv-loop μ-loop
-loop-holds c = search needs
+loop-holds c = unfound-start (c .args .heads .now) (c .args .from) (c .args .to) (c .args .y .0) (c .pre .0)
 
--- src/lib.rt:212:12
-mul-if1 : tie.Need-mul-if1 Inv-loop μ-loop
-mul-if1 c = search needs
-
--- src/lib.rt:212:12
-shared-slice-read-if1 : tie.Need-shared-slice-read-if1 Inv-loop μ-loop
-shared-slice-read-if1 c = search needs
-
--- src/lib.rt:213:13
 returns : tie.Need-returns Inv-loop μ-loop
-returns c = search needs
+returns c = found-at (c .before .before .before .loop .inv) (c .before .before .loop-test .taken) (c .if1 .taken)
 
--- src/lib.rt:215:9
-add-k : tie.Need-add-k Inv-loop μ-loop
-add-k c = search needs
-
--- src/lib.rt:211:5
-loop-less : tie.Need-loop-less Inv-loop μ-loop
-loop-less c = search needs
-
--- src/lib.rt:211:5
 loop-again : tie.Need-loop-again Inv-loop μ-loop
-loop-again c = search needs
+loop-again c = unfound-more (c .before .before .before .loop .inv) (c .before .before .loop-test .taken) (c .if1 .left)
 
--- src/lib.rt:205:1
 returns-2 : tie.Need-returns-2 Inv-loop μ-loop
-returns-2 c = search needs
+returns-2 c = found-none (c .before .loop .inv) (c .loop-test .left)
 
 pub find-in-row-spec : {M : Type 1} → statement M
 find-in-row-spec =
@@ -49,10 +31,10 @@ find-in-row-spec =
     Inv-loop
     μ-loop
     loop-holds
-    mul-if1
-    shared-slice-read-if1
+    (λ c. search needs)
+    (λ c. search needs)
     returns
-    add-k
-    loop-less
+    (λ c. search needs)
+    (λ c. search needs)
     loop-again
     returns-2)
