@@ -6,7 +6,6 @@ use Rattle.rules.specs.Refusals.{check4}
 use Rattle.lists.proofs.ListLaws.{orderFault, Seen, seen-none, seen-more, large-fault, twice-fault, entry-good}
 use Prim.Native.Nat.{_≤_, _-_}
 use lib.ListN.{length}
-use Rattle.lists.proofs.ListLaws.{Seen}
 use Rattle.lists.proofs.check_order.Statement.{statement}
 use Rattle.lists.proofs.check_order.Tie as tie
 
