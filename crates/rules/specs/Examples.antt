@@ -127,6 +127,10 @@ ours =
     -- "A sum with CLOSED is CLOSED"
     ∷ addsUp closed 3 closed
     ∷ addsUp 3 4 7
+    -- "join all its higher neighbours to one another", those joined on the way too: 0 joins 1 and 2, then 1 joins 2 and 3
+    ∷ hasRows (net (0 ∷ 0 ∷ 1 ∷ []) (1 ∷ 2 ∷ 3 ∷ []) (1 ∷ 1 ∷ 1 ∷ []) (0 ∷ 1 ∷ 2 ∷ 3 ∷ [])) 6 5 (0 ∷ 2 ∷ 4 ∷ 5 ∷ 5 ∷ []) (1 ∷ 2 ∷ 2 ∷ 3 ∷ 3 ∷ 0 ∷ [])
+    -- "The rank list is its inverse": an order that is not its own inverse
+    ∷ goes (star (1 ∷ 2 ∷ 3 ∷ 0 ∷ [])) 4 0 1 1 (0 ∷ [])
     -- "A set of lists is a hierarchy when": one that is, with a place of heads past first[n] that nobody looks at
     ∷ tested (2 ∷ 0 ∷ 1 ∷ []) (1 ∷ 2 ∷ 0 ∷ []) (0 ∷ 2 ∷ 3 ∷ 3 ∷ []) (1 ∷ 2 ∷ 2 ∷ 9 ∷ []) true
     -- "the rank list has length n and inverts the order"
@@ -135,12 +139,12 @@ ours =
     -- "first has length n + 1, starts with 0 and never falls"
     ∷ tested (0 ∷ 1 ∷ 2 ∷ []) (0 ∷ 1 ∷ 2 ∷ []) (0 ∷ 2 ∷ 3 ∷ 3 ∷ 3 ∷ []) (1 ∷ 2 ∷ 2 ∷ []) false
     ∷ tested (0 ∷ 1 ∷ 2 ∷ []) (0 ∷ 1 ∷ 2 ∷ []) (1 ∷ 2 ∷ 3 ∷ 3 ∷ []) (1 ∷ 2 ∷ 2 ∷ []) false
-    ∷ tested (0 ∷ 1 ∷ 2 ∷ []) (0 ∷ 1 ∷ 2 ∷ []) (0 ∷ 1 ∷ 0 ∷ 1 ∷ []) (1 ∷ 2 ∷ 2 ∷ []) false
+    ∷ tested (0 ∷ 1 ∷ 2 ∷ []) (0 ∷ 1 ∷ 2 ∷ []) (0 ∷ 1 ∷ 0 ∷ 0 ∷ []) (1 ∷ []) false
     -- "first[n] is at most the length of heads"
-    ∷ tested (0 ∷ 1 ∷ 2 ∷ []) (0 ∷ 1 ∷ 2 ∷ []) (0 ∷ 2 ∷ 3 ∷ 3 ∷ []) (1 ∷ 2 ∷ []) false
+    ∷ tested (0 ∷ 1 ∷ 2 ∷ []) (0 ∷ 1 ∷ 2 ∷ []) (0 ∷ 1 ∷ 2 ∷ 2 ∷ []) (1 ∷ []) false
     -- "each row is strictly ascending, above its position and below n"
-    ∷ tested (0 ∷ 1 ∷ 2 ∷ []) (0 ∷ 1 ∷ 2 ∷ []) (0 ∷ 2 ∷ 3 ∷ 3 ∷ []) (1 ∷ 1 ∷ 2 ∷ []) false
-    ∷ tested (0 ∷ 1 ∷ 2 ∷ []) (0 ∷ 1 ∷ 2 ∷ []) (0 ∷ 2 ∷ 3 ∷ 3 ∷ []) (1 ∷ 2 ∷ 1 ∷ []) false
+    ∷ tested (0 ∷ 1 ∷ 2 ∷ []) (0 ∷ 1 ∷ 2 ∷ []) (0 ∷ 3 ∷ 4 ∷ 4 ∷ []) (1 ∷ 2 ∷ 2 ∷ 2 ∷ []) false
+    ∷ tested (0 ∷ 1 ∷ 2 ∷ []) (0 ∷ 1 ∷ 2 ∷ []) (0 ∷ 0 ∷ 1 ∷ 1 ∷ []) (1 ∷ []) false
     ∷ tested (0 ∷ 1 ∷ 2 ∷ []) (0 ∷ 1 ∷ 2 ∷ []) (0 ∷ 1 ∷ 1 ∷ 1 ∷ []) (3 ∷ []) false
     -- "every entry of a row but its first stands in the parent's row too"
     ∷ tested (0 ∷ 1 ∷ 2 ∷ []) (0 ∷ 1 ∷ 2 ∷ []) (0 ∷ 2 ∷ 2 ∷ 2 ∷ []) (1 ∷ 2 ∷ []) false
