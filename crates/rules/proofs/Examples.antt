@@ -2,7 +2,7 @@
 use mathlib.Core.Path.{refl}
 use Rattle.rules.specs.Net.{rankList}
 use Rattle.rules.specs.Hierarchy.{isHierarchy}
-use Rattle.rules.specs.Calls.{distanceLeaves, routeLeaves}
+use Rattle.rules.specs.Calls.{buildLeaves, customiseLeaves, distanceLeaves, routeLeaves}
 use Rattle.rules.specs.Examples.{AllHold, paper, ours, builtBy, customisedBy}
 
 pub paper-holds : AllHold paper
@@ -49,7 +49,7 @@ paper-holds = (
 )
 
 pub ours-hold : AllHold ours
-unfolding ours builtBy customisedBy distanceLeaves routeLeaves rankList isHierarchy
+unfolding ours builtBy customisedBy buildLeaves customiseLeaves distanceLeaves routeLeaves rankList isHierarchy
 ours-hold = (
   (refl, refl),
   (
@@ -66,7 +66,88 @@ ours-hold = (
               refl,
               (
                 refl,
-                (refl, ((refl, refl), (refl, (refl, (refl, (refl, (refl, (refl, (refl, (refl, (refl, (refl, (refl, tt))))))))))))),
+                (
+                  refl,
+                  (
+                    (refl, refl),
+                    (
+                      refl,
+                      (
+                        refl,
+                        (
+                          refl,
+                          (
+                            refl,
+                            (
+                              refl,
+                              (
+                                refl,
+                                (
+                                  refl,
+                                  (
+                                    refl,
+                                    (
+                                      refl,
+                                      (
+                                        refl,
+                                        (
+                                          refl,
+                                          (
+                                            refl,
+                                            (
+                                              refl,
+                                              (
+                                                refl,
+                                                (
+                                                  refl,
+                                                  (
+                                                    refl,
+                                                    (
+                                                      refl,
+                                                      (
+                                                        refl,
+                                                        (
+                                                          refl,
+                                                          (
+                                                            refl,
+                                                            (
+                                                              refl,
+                                                              (
+                                                                refl,
+                                                                (
+                                                                  refl,
+                                                                  (
+                                                                    refl,
+                                                                    (
+                                                                      refl,
+                                                                      tt,
+                                                                    ),
+                                                                  ),
+                                                                ),
+                                                              ),
+                                                            ),
+                                                          ),
+                                                        ),
+                                                      ),
+                                                    ),
+                                                  ),
+                                                ),
+                                              ),
+                                            ),
+                                          ),
+                                        ),
+                                      ),
+                                    ),
+                                  ),
+                                ),
+                              ),
+                            ),
+                          ),
+                        ),
+                      ),
+                    ),
+                  ),
+                ),
               ),
             ),
           ),

@@ -1,21 +1,21 @@
--- "The net of the examples": what document 01 marks P, and some of our own on what its sentences say, as one statement over one list.
--- Each is asked of the calls' own definitions. Assumes nothing.
+-- "The net of the examples": what document 01 marks P, all under one statement over one list; and, as a second list, its other small examples
+-- and some of our own on what its sentences say. Each is asked of the calls' own definitions. Assumes nothing.
 use Prim.Native.Nat.{ℕ, suc}
 use mathlib.Core.Path.{_≡_}
 use mathlib.Core.Bool.{Bool, true, false}
 use mathlib.Core.List.{List, [], _∷_, _++_}
 use lib.ListN.{length, replicate}
 use Rattle.rules.specs.Costs.{closed, sumOf, costOf}
-use Rattle.rules.specs.Replies.{Reply, edges, done, far, drive, noWalk}
+use Rattle.rules.specs.Replies.{Reply, refused, edges, done, far, drive, noWalk}
 use Rattle.rules.specs.Net.{Net, net, rankList}
 use Rattle.rules.specs.Hierarchy.{isHierarchy}
-use Rattle.rules.specs.Calls.{BuildLeaves, CustomiseLeaves, buildLeaves, customiseLeaves, distanceLeaves, routeLeaves, buildLeft, customiseLeft, distanceLeft, routeLeft}
+use Rattle.rules.specs.Calls.{BuildLeaves, CustomiseLeaves, RouteLeaves, buildLeaves, customiseLeaves, distanceLeaves, routeLeaves, buildLeft, customiseLeft, distanceLeft, routeLeft}
 
 -- what stands in the rooms before a call: no call may rely on it
 abbrev pub stale : ℕ → List ℕ
 stale n = replicate n 77
 
--- build, with one place more than E may need
+-- build into a room of heads
 unfoldable pub builtBy : Net → ℕ → BuildLeaves
 unfolding buildLeaves
 builtBy N room =
@@ -36,10 +36,14 @@ pub data Claim : Type 0 where
   nowhere : Net → ℕ → ℕ → ℕ → Claim
   addsUp : ℕ → ℕ → ℕ → Claim
   tested : List ℕ → List ℕ → List ℕ → List ℕ → Bool → Claim
+  builds : Net → List ℕ → List ℕ → List ℕ → BuildLeaves → Claim
+  customises : Net → List ℕ → List ℕ → List ℕ → List ℕ → List ℕ → CustomiseLeaves → Claim
+  drivesOn : Net → Net → ℕ → ℕ → ℕ → ℕ → RouteLeaves → Claim
 
 -- the claims' meaning. E, first and heads; the up and the down list; from one junction to another a distance and the arcs of the route, by
 -- distance and by route, with a place more than the route needs; no walk; the sum of two costs;
--- whether an order, a rank list, first and heads are a hierarchy
+-- whether an order, a rank list, first and heads are a hierarchy; what build and customise leave in any rooms; what route leaves in a room,
+-- where one net was customised and another is asked
 abbrev pub Holds : Claim → Type 0
 Holds (hasRows N room e first heads) = builtBy N room ≡ buildLeft (rankList (N .order)) first heads (edges e)
 Holds (hasCosts N room up down) = customisedBy N room ≡ customiseLeft up down done
@@ -57,6 +61,12 @@ Holds (nowhere N room from to) =
     ≡ routeLeft (closed ∷ closed ∷ []) noWalk)
 Holds (addsUp a b c) = sumOf (costOf a) (costOf b) ≡ costOf c
 Holds (tested order rank first heads b) = isHierarchy order rank first heads ≡ b
+Holds (builds N rank first rowHeads left) = buildLeaves (N .tails) (N .heads) (N .order) rank first rowHeads ≡ left
+Holds (customises N rank first rowHeads up down left) = customiseLeaves N rank first rowHeads up down ≡ left
+Holds (drivesOn N M room from to places left) =
+    let b = builtBy N room in
+    let c = customisedBy N room in
+    routeLeaves M (b .rank) (b .first) (b .heads) (c .up) (c .down) from to (stale places) ≡ left
 
 -- every claim of a list holds
 abbrev pub AllHold : List Claim → Type 0
@@ -84,6 +94,14 @@ n4Turned = net (n4 .tails) (n4 .heads) (n4 .costs) (3 ∷ 2 ∷ 1 ∷ 0 ∷ [])
 abbrev pub star : List ℕ → Net
 star order = net (0 ∷ 0 ∷ 0 ∷ []) (1 ∷ 2 ∷ 3 ∷ []) (1 ∷ 1 ∷ 1 ∷ []) order
 
+-- N4 with another cost of arc 2
+abbrev pub n4With : ℕ → Net
+n4With cost = net (n4 .tails) (n4 .heads) (3 ∷ 4 ∷ cost ∷ 6 ∷ 20 ∷ []) (n4 .order)
+
+-- one arc, 0 to 1, of a cost
+abbrev pub oneArc : ℕ → Net
+oneArc cost = net (0 ∷ []) (1 ∷ []) (cost ∷ []) (0 ∷ 1 ∷ [])
+
 -- P1 to P10 of document 01
 unfoldable pub paper : List Claim
 paper =
@@ -109,7 +127,7 @@ paper =
     ∷ hasRows (star (1 ∷ 2 ∷ 3 ∷ 0 ∷ [])) 4 3 (0 ∷ 1 ∷ 2 ∷ 3 ∷ 3 ∷ []) (3 ∷ 3 ∷ 3 ∷ 0 ∷ [])
     ∷ []
 
--- Our own, one for each sentence that no P example tells apart
+-- Our own, for the sentences that no P example tells apart, and document 01's other small examples
 unfoldable pub ours : List Claim
 ours =
     -- "the lowest meeting position": 0 to 1 meets at 1 and at 2, at the same cost
@@ -148,4 +166,27 @@ ours =
     ∷ tested (0 ∷ 1 ∷ 2 ∷ []) (0 ∷ 1 ∷ 2 ∷ []) (0 ∷ 1 ∷ 1 ∷ 1 ∷ []) (3 ∷ []) false
     -- "every entry of a row but its first stands in the parent's row too"
     ∷ tested (0 ∷ 1 ∷ 2 ∷ []) (0 ∷ 1 ∷ 2 ∷ []) (0 ∷ 2 ∷ 2 ∷ 2 ∷ []) (1 ∷ 2 ∷ []) false
+    -- "n = 1, no arcs: first 0 0, E = 0, accepted. n = 0: 1."
+    ∷ builds (net [] [] [] (0 ∷ [])) (7 ∷ []) (7 ∷ 7 ∷ []) [] (buildLeft (0 ∷ []) (0 ∷ 0 ∷ []) [] (edges 0))
+    ∷ builds (net [] [] [] []) (7 ∷ []) (7 ∷ 7 ∷ []) [] (buildLeft (7 ∷ []) (7 ∷ 7 ∷ []) [] (refused 1 0))
+    -- "Heads room 4 for N4: 6", and "after 6 rank, first and heads are all 0"
+    ∷ builds n4 (stale 4) (stale 5) (stale 4)
+    (buildLeft (0 ∷ 0 ∷ 0 ∷ 0 ∷ []) (0 ∷ 0 ∷ 0 ∷ 0 ∷ 0 ∷ []) (0 ∷ 0 ∷ 0 ∷ 0 ∷ []) (refused 6 0))
+    -- "an order entry is n or more, or was seen earlier": the later position, and the lists stay unchanged
+    ∷ builds (net [] [] [] (1 ∷ 0 ∷ 1 ∷ [])) (7 ∷ 7 ∷ 7 ∷ []) (7 ∷ 7 ∷ 7 ∷ 7 ∷ []) [] (buildLeft (7 ∷ 7 ∷ 7 ∷ []) (7 ∷ 7 ∷ 7 ∷ 7 ∷ []) [] (refused 4 2))
+    -- "Cost 500,000 accepted, 500,001: 9, 0: 9"; CLOSED is accepted
+    ∷ customises (oneArc 500000) (0 ∷ 1 ∷ []) (0 ∷ 1 ∷ 1 ∷ []) (1 ∷ []) (7 ∷ []) (7 ∷ []) (customiseLeft (500000 ∷ []) (closed ∷ []) done)
+    ∷ customises (oneArc 500001) (0 ∷ 1 ∷ []) (0 ∷ 1 ∷ 1 ∷ []) (1 ∷ []) (7 ∷ []) (7 ∷ []) (customiseLeft (7 ∷ []) (7 ∷ []) (refused 9 0))
+    ∷ customises (oneArc 0) (0 ∷ 1 ∷ []) (0 ∷ 1 ∷ 1 ∷ []) (1 ∷ []) (7 ∷ []) (7 ∷ []) (customiseLeft (7 ∷ []) (7 ∷ []) (refused 9 0))
+    ∷ customises (oneArc closed) (0 ∷ 1 ∷ []) (0 ∷ 1 ∷ 1 ∷ []) (1 ∷ []) (7 ∷ []) (7 ∷ []) (customiseLeft (closed ∷ []) (closed ∷ []) done)
+    -- "Customise: 1, 2, 3, 4, 7, 8, 9, 10": an arc without an edge and of cost 0, in lists too short: 8
+    ∷ customises (oneArc 0) (0 ∷ 1 ∷ []) (0 ∷ 0 ∷ 0 ∷ []) [] [] [] (customiseLeft [] [] (refused 8 0))
+    -- "N4 customised, then arc 2's cost set to 3 with nothing redone, route 1 to 3: room 3 or 2 gives 13, room 1 gives 12"
+    ∷ drivesOn n4 (n4With 3) 6 1 3 3 (routeLeft (closed ∷ closed ∷ closed ∷ []) (refused 13 0))
+    ∷ drivesOn n4 (n4With 3) 6 1 3 2 (routeLeft (closed ∷ closed ∷ []) (refused 13 0))
+    ∷ drivesOn n4 (n4With 3) 6 1 3 1 (routeLeft (closed ∷ []) (refused 12 0))
+    -- an arc cheaper than the piece does not fit either
+    ∷ drivesOn n4 (n4With 1) 6 1 3 3 (routeLeft (closed ∷ closed ∷ closed ∷ []) (refused 13 0))
+    -- "N4 as customised, room 2: 12"
+    ∷ drivesOn n4 n4 6 1 3 2 (routeLeft (closed ∷ closed ∷ []) (refused 12 0))
     ∷ []
