@@ -6,6 +6,7 @@ ghost use mathlib.Core.List.{[], _∷_};
 ghost use lib.ListN.{length, getD, set};
 ghost use Rattle.rules.specs.Net.{rankList};
 ghost use Rattle.rules.specs.Refusals.{check1, check2, check3, check4, check5, unlawful, check9, check10, check11};
+ghost use Rattle.rules.specs.Calls.{buildChecks};
 ghost use Rattle.theory.proofs.Ranks.{Ordered};
 ghost use Rattle.lists.specs.Lent.{verdict, foundIn, part, chosen};
 use rules::Cost;
@@ -130,12 +131,38 @@ pub fn check_rooms(n: usize, rank: &[u32], first: &[u32]) -> Check
     Check::Passes
 }
 
+// All of build's checks but 6, in the paper's order.
+pub fn check_build(
+    tails: &[u32],
+    heads: &[u32],
+    order: &[u32],
+    rank: &[u32],
+    first: &[u32],
+) -> Check
+    ensures { λ r. ⌜ verdict r ≡ buildChecks (now (tails .entry)) (now (heads .entry)) (now (order .entry)) (now (rank .entry)) (now (first .entry)) ⌝ }
+{
+    let n = order.len();
+    if let Check::Fails(refusal) = check_junctions(n) {
+        return Check::Fails(refusal);
+    }
+    if let Check::Fails(refusal) = check_two_lists(tails, heads) {
+        return Check::Fails(refusal);
+    }
+    if let Check::Fails(refusal) = check_ends(n, tails, heads) {
+        return Check::Fails(refusal);
+    }
+    if let Check::Fails(refusal) = check_order(order) {
+        return Check::Fails(refusal);
+    }
+    check_rooms(n, rank, first)
+}
+
 // A cost that is neither CLOSED nor from 1 to the greatest.
 pub fn is_unlawful(cost: Cost) -> bool
     ensures { λ r. ⌜ r ≡ unlawful (cost .0) ⌝ }
 {
     let c = cost.0;
-    if c == 0 {
+    if c == Cost::ZERO.0 {
         return true;
     }
     if c <= Cost::GREATEST.0 {

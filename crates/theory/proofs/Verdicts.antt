@@ -66,3 +66,10 @@ faultless-fails k {f} {n} {i} s h t =
 -- none up to the end
 pub faultless-passes : (k : ℕ) {f : ℕ → Bool} {n i : ℕ} → Faultless f n i → n ≤ i → passes ≡ failsAt k f n
 faultless-passes k {f} {n} {i} s h = sym (passes-at k f n (λ q l t. s .none q (omega arith) t))
+
+-- ---- checks one after the other
+
+-- the last check decides alone
+pub alone : (v : Verdict) → v ≡ firstFailure (v ∷ [])
+alone passes = refl
+alone (fails k p) = refl
