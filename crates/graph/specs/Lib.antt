@@ -1,0 +1,4 @@
+pub mod Threads
+pub mod Arcs
+pub mod Growing
+pub mod Contracted
