@@ -62,8 +62,7 @@ module _ (N : Net) where
   pub fills-next : (p at : ℕ) (first heads childAt childNext after : List ℕ) → Grown N p at first heads childAt childNext after → size N ≤ p → (at ≤ length heads) × (take at heads ≡ headsList N) × (first ≡ firstList N)
   unfolding headsList firstList
   fills-next p at first heads childAt childNext after g h =
-      let e : p ≡ size N = omega (arith, g .within) in
-      (
+      let e : p ≡ size N = omega (arith, g .within) in (
         g .room,
         g .written ∙ ap (rowsBelow N) e,
         is-tabulate (λ k. length (rowsBelow N k)) first (λ k l. g .starts k (omega (arith, g .first-long)))

@@ -48,8 +48,7 @@ module _ (n p at k x : ℕ) (after before heads : List ℕ) (w : Writing n p at 
         same-long = length-set heads k x ∙ w .same-long;
         holds = λ S h.
             let (there, g) = w .holds S h in
-            let b = h .next x (inr (there more)) in
-            (
+            let b = h .next x (inr (there more)) in (
               b .member,
               rw (take-suc-set heads k x fits, append-assoc (take k heads) (x ∷ []) (those S (getD after x 0) (n - getD after x 0)), ← those-next S n x (getD after x 0) b)
                   (ap (λ m. take k heads ++ m) (sym (from-here more S (there more))) ∙ g),

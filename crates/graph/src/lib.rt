@@ -13,7 +13,6 @@ ghost use Rattle.graph.specs.Threads.{Threaded};
 ghost use Rattle.graph.specs.Arcs.{lowEnd, highEnd, ArcIn, ArcLists, withArcs};
 ghost use Rattle.graph.specs.Growing.{parentIn, withChildren, RowsIn, Gatherable, gathered, Writes, Laid, Ready, Grows, Fills};
 ghost use Rattle.graph.specs.Contracted.{left, contracted};
-
 use rules::wide;
 use sets::put;
 use sets::put_all;
@@ -55,7 +54,13 @@ fn high_end(tails: &[u32], heads: &[u32], rank: &[u32], i: usize) -> usize
 }
 
 // Threads the arcs by their lower ends, so that the arcs of one position are found without a search.
-fn thread_arcs(tails: &[u32], heads: &[u32], rank: &[u32], at: &mut [u32; 4096], next: &mut [u32; 16384])
+fn thread_arcs(
+    tails: &[u32],
+    heads: &[u32],
+    rank: &[u32],
+    at: &mut [u32; 4096],
+    next: &mut [u32; 16384],
+)
     requires { ⌜ ArcLists (now tails) (now heads) (now rank) (length (now rank)) × (now at ≡ replicate 4096 0) × (length (now next) ≡ 16384) ⌝ }
     ensures { λ _. ⌜ Threaded (lowEnd (now (tails .entry)) (now (heads .entry)) (now (rank .entry))) 4096 16384 (length (now (tails .entry))) (now (at .exit)) (now (next .exit)) ⌝ }
 {
@@ -190,7 +195,20 @@ fn add_row(
     ensures { λ r. ⌜ Grows (net (now (tails .entry)) (now (heads .entry)) [] (now (order .entry))) p (now («row_heads» .entry)) (now (first .exit)) (now («row_heads» .exit)) (now («child_at» .exit)) (now («child_next» .exit)) (now (after .exit)) r ⌝ }
 {
     let n = order.len();
-    gather_row(tails, heads, rank, arc_at, arc_next, first, row_heads, child_at, child_next, n, p, after);
+    gather_row(
+        tails,
+        heads,
+        rank,
+        arc_at,
+        arc_next,
+        first,
+        row_heads,
+        child_at,
+        child_next,
+        n,
+        p,
+        after,
+    );
     let Room::Next(e) = write_row(after, n, p, row_heads, at) else {
         return Room::Full;
     };
@@ -270,7 +288,16 @@ pub fn contract(
     let mut arc_at = [0u32; 4096];
     let mut arc_next = [0u32; 16384];
     thread_arcs(tails, heads, rank, &mut arc_at, &mut arc_next);
-    let Room::Next(e) = add_rows(order, tails, heads, rank, &arc_at, &arc_next, first, row_heads) else {
+    let Room::Next(e) = add_rows(
+        order,
+        tails,
+        heads,
+        rank,
+        &arc_at,
+        &arc_next,
+        first,
+        row_heads,
+    ) else {
         clear(first, 0);
         clear(row_heads, 0);
         return Room::Full;

@@ -4,7 +4,6 @@
 ghost use mathlib.Core.Path.{_≡_};
 ghost use Rattle.rules.specs.Replies.{buildReply, distanceReply};
 ghost use Rattle.rules.specs.Calls.{buildLeft, buildLeaves, distanceLeft, distanceLeaves};
-
 use distance::ask;
 use graph::Room;
 use graph::clear;
@@ -54,7 +53,16 @@ pub fn distance<'a>(
 ) -> DistanceAnswer
     ensures { λ r. ⌜ distanceLeft (distanceReply r) ≡ distanceLeaves (now (order .entry)) (now (rank .entry)) (now (first .entry)) (now («row_heads» .entry)) (now (up .entry)) (now (down .entry)) (from .0) (to .0) ⌝ }
 {
-    if let Check::Fails(refusal) = check_distance(order, rank, first, row_heads, up, down, from, to) {
+    if let Check::Fails(refusal) = check_distance(
+        order,
+        rank,
+        first,
+        row_heads,
+        up,
+        down,
+        from,
+        to,
+    ) {
         return DistanceAnswer::Refused(refusal);
     }
     let s = position_of(rank, from);

@@ -5,7 +5,6 @@ ghost use Prim.Native.Nat.{ℕ, _<_};
 ghost use mathlib.Core.Bool.{Bool};
 ghost use lib.Seq.{slice};
 ghost use Rattle.sets.specs.NextMembers.{Holds, Rises, PutIn, AscendingPart, alsoAll};
-
 use rules::wide;
 
 // Puts y into the set, from a place below y that is the set's position or a member.
