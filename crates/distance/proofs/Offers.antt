@@ -61,6 +61,7 @@ good-offer labels came p q mine cost d s h l m =
 -- ---- a row
 
 module _ (q mine : ℕ) (heads costs labels came : List ℕ) where
+  -- no edge yet
   pub handed-start : HandedOn q mine heads costs 0 labels came labels came
   handed-start =
       record {

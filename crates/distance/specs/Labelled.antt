@@ -38,7 +38,7 @@ pub record Climbed (n : ℕ) (joined : ℕ → ℕ → Bool) (step : ℕ → ℕ
 abbrev pub offerOf : ℕ → ℕ → ℕ
 offerOf mine cost = cond (not (eqb cost closed)) (sumTo none mine cost) none
 
--- a number b that came from a, once o is offered from q: only a smaller one is taken
+-- a number b that came from a, once o is offered from q: only a smaller one is taken, and no offer is over the number for none
 pub data Offered (q o b a b′ a′ : ℕ) : Type 0 where
   taken : o < b → b′ ≡ o → a′ ≡ q → Offered q o b a b′ a′
   kept : min b none ≤ o → b′ ≡ b → a′ ≡ a → Offered q o b a b′ a′

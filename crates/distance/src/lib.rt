@@ -115,15 +115,15 @@ pub fn meet(
     requires { ⌜ Chained (now first) (now «row_heads») (t .0) (now b) ⌝ }
     ensures { λ r. ⌜ Met (count (now (first .entry))) (now (a .entry)) (now (b .entry)) (r .sum) (r .at) ⌝ }
 {
-    let mut q = wide(t.0);
-    let mut best = look(Meeting { sum: NONE, at: q }, a, b, q);
-    let mut from = wide(first[q]);
-    let mut to = wide(first[q + 1]);
+    let mut p = wide(t.0);
+    let mut best = look(Meeting { sum: NONE, at: p }, a, b, p);
+    let mut from = wide(first[p]);
+    let mut to = wide(first[p + 1]);
     while from < to {
-        q = wide(row_heads[from]);
-        best = look(best, a, b, q);
-        from = wide(first[q]);
-        to = wide(first[q + 1]);
+        p = wide(row_heads[from]);
+        best = look(best, a, b, p);
+        from = wide(first[p]);
+        to = wide(first[p + 1]);
     }
     best
 }

@@ -1,16 +1,13 @@
 -- The first and the last of the rows: where the writing starts, and what it has left when it ends. Assumes nothing.
-use Prim.Native.Nat.{ℕ, zero, suc, _+_, _-_, _≤_, _<_}
+use Prim.Native.Nat.{ℕ, suc, _-_, _≤_, _<_}
 use mathlib.Core.Path.{_≡_, refl, sym, ap, _∙_, subst}
-use mathlib.Core.Bool.{cond}
-use mathlib.Core.List.{List, [], _∷_, _++_}
+use mathlib.Core.List.{List, _++_}
 use native.Mathlib.Omega.{arith}
-use native.Mathlib.Numerals.{add-one}
-use lib.Dec.{leb}
-use lib.ListN.{length, getD, take, set, replicate, length-set, getD-replicate, length-append}
+use lib.ListN.{length, take, set, replicate, length-set, getD-replicate}
 use lib.Seq.{getD-set-same, length-take-le}
 use borrow.Author.Tests.{le-leb, lt-leb}
 use Rattle.rules.specs.Words.{tabulate}
-use Rattle.rules.specs.Net.{Net, net, size, rankList}
+use Rattle.rules.specs.Net.{Net, size, rankList}
 use Rattle.rules.specs.Graph.{rowsBelow, firstList, headsList, edgeCount}
 use Rattle.theory.proofs.Laws.{is-tabulate}
 use Rattle.theory.proofs.Ranks.{Inverse, inverse-list}
@@ -18,12 +15,11 @@ use Rattle.theory.proofs.Built.{rows-within}
 use Rattle.theory.proofs.BuildFits.{Buildable}
 use Rattle.theory.proofs.RowsBelow.{rows-none}
 use Rattle.theory.proofs.GraphRows.{parentOf}
-use Rattle.graph.specs.declared.Room.{Room}
 use Rattle.graph.specs.declared.Room.the-variants.{Next, Full}
-use Rattle.graph.specs.Arcs.{ArcLists}
-use Rattle.graph.specs.Growing.{Grown, Fills}
+use Rattle.sets.specs.Arcs.{ArcLists}
+use Rattle.graph.specs.Growing.{Grown}
 use Rattle.graph.specs.Contracted.{left, contracted}
-use Rattle.graph.proofs.ThreadLaws.{threads-none}
+use Rattle.sets.proofs.ThreadLaws.{threads-none}
 
 -- ---- what build's checks give
 

@@ -1,14 +1,13 @@
 -- One row more: what stands in the lists once the rows below p are written, and how the row of p is added. Assumes nothing.
-use Prim.Native.Nat.{ℕ, zero, suc, _+_, _-_, _*_, _≤_, _<_}
-use mathlib.Core.Path.{_≡_, refl, sym, ap, _∙_, subst}
-use mathlib.Core.Logic.{_⊎_, inl, inr, _≢_}
+use Prim.Native.Nat.{ℕ, suc, _+_, _≤_, _<_}
+use mathlib.Core.Path.{_≡_, refl, sym, ap, _∙_}
+use mathlib.Core.Logic.{inl}
 use mathlib.Core.Bool.{Bool}
-use mathlib.Core.List.{List, [], _∷_, _++_}
+use mathlib.Core.List.{List, [], _++_}
 use native.Mathlib.Omega.{arith}
 use native.Mathlib.Numerals.{add-one}
-use lib.Dec.{T, eqb}
 use lib.ListN.{length, getD, take, drop, set, length-set}
-use lib.Seq.{slice, take-take, length-take-le, getD-set-same, getD-set-other}
+use lib.Seq.{take-take, length-take-le, getD-set-same, getD-set-other}
 use Rattle.rules.specs.Net.{Net, net, size}
 use Rattle.rules.specs.Graph.{row, rowsBelow}
 use Rattle.rules.specs.Hierarchy.{rowAt}
@@ -19,10 +18,11 @@ use Rattle.theory.proofs.GraphRows.{parentOf, row-ascends}
 use Rattle.sets.specs.NextMembers.{members, Holds, Rises}
 use Rattle.sets.proofs.Membership.{first-member}
 use Rattle.sets.proofs.NextLaws.{same-or-not}
-use Rattle.graph.specs.Threads.{Threaded}
-use Rattle.graph.specs.Growing.{parentIn, RowsIn, Gatherable, gathered, Grown, Ready}
-use Rattle.graph.proofs.ThreadLaws.{threads-same}
-use Rattle.graph.proofs.RowMade.{row-made}
+use Rattle.sets.specs.Threads.{Threaded}
+use Rattle.sets.specs.Gathered.{parentIn, RowsIn, Gatherable, gathered}
+use Rattle.graph.specs.Growing.{Grown, Ready}
+use Rattle.sets.proofs.ThreadLaws.{threads-same}
+use Rattle.sets.proofs.RowMade.{row-made}
 
 -- ---- the rows below p, read back
 
@@ -31,6 +31,7 @@ module _ (N : Net) (p at : ℕ) (first heads childAt childNext after : List ℕ)
   at-is : at ≡ length (rowsBelow N p)
   at-is = sym (length-take-le at heads (g .room)) ∙ ap length (g .written)
 
+  -- no row ends past it
   ends-within : (c : ℕ) → c ≤ p → length (rowsBelow N c) ≤ at
   ends-within c l = omega (arith, at-is, rows-grow N c p l)
 
@@ -43,7 +44,7 @@ module _ (N : Net) (p at : ℕ) (first heads childAt childNext after : List ℕ)
       (ap (drop (length (rowsBelow N c))) front ∙ row-behind N p c l)
 
   -- the rows below p are in place
-  pub rows-in : RowsIn first heads (size N) p
+  rows-in : RowsIn first heads (size N) p
   rows-in =
       record {
         few = g .few;
@@ -56,7 +57,7 @@ module _ (N : Net) (p at : ℕ) (first heads childAt childNext after : List ℕ)
       }
 
   -- and their positions are threaded by the parents that the lists have
-  pub children-in : Threaded (parentIn first heads (size N)) (size N) 4096 p childAt childNext
+  children-in : Threaded (parentIn first heads (size N)) (size N) 4096 p childAt childNext
   unfolding parentOf
   children-in =
       threads-same (parentOf N) (size N) 4096 p childAt childNext (g .children) (parentIn first heads (size N))
@@ -66,6 +67,7 @@ module _ (N : Net) (p at : ℕ) (first heads childAt childNext after : List ℕ)
 
 module _ (tails heads order rank arcAt arcNext : List ℕ) (p at : ℕ) (first rowHeads childAt childNext after : List ℕ)
     (r : Ready tails heads order rank arcAt arcNext p at first rowHeads childAt childNext after) where
+  -- the net of the lists
   abbrev N : Net
   N = net tails heads [] order
 
@@ -107,6 +109,7 @@ module _ (tails heads order rank arcAt arcNext : List ℕ) (p at : ℕ) (first r
       ∙ ap (λ l. getD l 0 (length order)) brought-row)
 
   module _ (e : ℕ) (written : List ℕ) (w : (e ≤ length written) × (take e written ≡ take at rowHeads ++ members brought (length order) p)) where
+    -- it ends where the rows below its successor end
     end-is : e ≡ length (rowsBelow N (suc p))
     end-is = sym (length-take-le e written (w .0)) ∙ ap length (w .1 ∙ rows-next)
 

@@ -7,11 +7,11 @@ use mathlib.Core.List.{List, [], _∷_, _++_, append-assoc, append-nil}
 use native.Mathlib.Omega.{arith}
 use native.Mathlib.Numerals.{add-one}
 use lib.Dec.{T}
-use lib.ListN.{length, getD, take, set, replicate, length-append, length-set, length-replicate, replicate-append-replicate}
+use lib.ListN.{length, getD, take, set, replicate, length-append, length-set, replicate-append-replicate}
 use lib.Seq.{take-all, take-suc-set}
 use Rattle.rules.specs.Words.{those}
 use Rattle.theory.proofs.ThoseLaws.{those-here}
-use Rattle.sets.specs.NextMembers.{NextAbove, Holds, members}
+use Rattle.sets.specs.NextMembers.{Holds, members}
 use Rattle.sets.proofs.Membership.{those-next}
 
 -- ---- the members of a set
@@ -80,6 +80,7 @@ pub record Cleared (from i : ℕ) (before list : List ℕ) : Type 0 where
   pub same-long : length list ≡ length before
   pub noughts : take i list ≡ take from before ++ replicate (i - from) 0
 
+-- none yet
 pub cleared-start : (from : ℕ) (list : List ℕ) → from ≤ length list → Cleared from from list list
 cleared-start from list l =
     let e : from - from ≡ 0 = omega arith in

@@ -1,4 +1,2 @@
-pub mod Threads
-pub mod Arcs
 pub mod Growing
 pub mod Contracted

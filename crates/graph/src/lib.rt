@@ -1,126 +1,25 @@
 // Contraction: the rows of the shortcut graph, written straight into lent room, for each position from 0 upward.
-// The row of p is the arc neighbours of p above it together with the rows of p's children less p: no pair is looked at twice.
+// The row of p is the arc neighbours of p above it together with the rows of p's children less p, so that the whole takes little more than E steps.
 
-ghost use Prim.Native.Nat.{ℕ, suc, _+_, _-_, _≤_, _<_};
+ghost use Prim.Native.Nat.{ℕ, suc, _-_, _≤_, _<_};
 ghost use mathlib.Core.Path.{_≡_};
 ghost use mathlib.Core.Bool.{Bool};
 ghost use mathlib.Core.List.{[], _++_};
-ghost use lib.ListN.{length, getD, take, replicate};
+ghost use lib.ListN.{length, take, replicate};
 ghost use Rattle.rules.specs.Net.{net, rankList};
 ghost use Rattle.theory.proofs.BuildFits.{Buildable};
 ghost use Rattle.sets.specs.NextMembers.{Holds, Rises};
-ghost use Rattle.graph.specs.Threads.{Threaded};
-ghost use Rattle.graph.specs.Arcs.{lowEnd, highEnd, ArcIn, ArcLists, withArcs};
-ghost use Rattle.graph.specs.Growing.{parentIn, withChildren, RowsIn, Gatherable, gathered, Writes, Laid, Ready, Grows, Fills};
+ghost use Rattle.graph.specs.Growing.{Writes, Laid, Ready, Grows, Fills};
 ghost use Rattle.graph.specs.Contracted.{left, contracted};
 use rules::wide;
-use sets::put;
-use sets::put_all;
+use sets::gather_row;
+use sets::thread_arcs;
+use sets::thread_child;
 
 // What writing rows answers: the next free place of heads, or that the room is full.
 pub enum Room {
     Next(usize),
     Full,
-}
-
-// The lower of the positions of arc i's ends.
-fn low_end(tails: &[u32], heads: &[u32], rank: &[u32], i: usize) -> usize
-    requires { ⌜ ArcIn (now tails) (now heads) (now rank) i ⌝ }
-    ensures { λ r. ⌜ r ≡ lowEnd (now (tails .entry)) (now (heads .entry)) (now (rank .entry)) i ⌝ }
-{
-    let t = wide(tails[i]);
-    let h = wide(heads[i]);
-    let a = wide(rank[t]);
-    let b = wide(rank[h]);
-    if a < b {
-        return a;
-    }
-    b
-}
-
-// The higher of the positions of arc i's ends.
-fn high_end(tails: &[u32], heads: &[u32], rank: &[u32], i: usize) -> usize
-    requires { ⌜ ArcIn (now tails) (now heads) (now rank) i ⌝ }
-    ensures { λ r. ⌜ r ≡ highEnd (now (tails .entry)) (now (heads .entry)) (now (rank .entry)) i ⌝ }
-{
-    let t = wide(tails[i]);
-    let h = wide(heads[i]);
-    let a = wide(rank[t]);
-    let b = wide(rank[h]);
-    if a < b {
-        return b;
-    }
-    a
-}
-
-// Threads the arcs by their lower ends, so that the arcs of one position are found without a search.
-fn thread_arcs(
-    tails: &[u32],
-    heads: &[u32],
-    rank: &[u32],
-    at: &mut [u32; 4096],
-    next: &mut [u32; 16384],
-)
-    requires { ⌜ ArcLists (now tails) (now heads) (now rank) (length (now rank)) × (now at ≡ replicate 4096 0) × (length (now next) ≡ 16384) ⌝ }
-    ensures { λ _. ⌜ Threaded (lowEnd (now (tails .entry)) (now (heads .entry)) (now (rank .entry))) 4096 16384 (length (now (tails .entry))) (now (at .exit)) (now (next .exit)) ⌝ }
-{
-    let mut i = 0;
-    while i < tails.len() {
-        let p = low_end(tails, heads, rank, i);
-        next[i] = at[p];
-        at[p] = (i + 1) as u32;
-        i += 1;
-    }
-}
-
-// Puts the higher ends of p's arcs into the set of p.
-fn put_arcs(
-    tails: &[u32],
-    heads: &[u32],
-    rank: &[u32],
-    n: usize,
-    p: usize,
-    at: &[u32; 4096],
-    next: &[u32; 16384],
-    after: &mut [u32; 4096],
-)
-    requires { ⌜ ArcLists (now tails) (now heads) (now rank) n × (p < n) × Threaded (lowEnd (now tails) (now heads) (now rank)) 4096 16384 (length (now tails)) (now at) (now next) × Rises (now after) ⌝ }
-    ensures rises { λ _. ⌜ Rises (now (after .exit)) ⌝ }
-    ensures set { λ _. ⌜ ((S : ℕ → Bool) → Holds S n p (now (after .entry)) → Holds (withArcs (now (tails .entry)) (now (heads .entry)) (now (rank .entry)) p S) n p (now (after .exit))) ⌝ }
-{
-    let mut k = wide(at[p]);
-    while 0 < k {
-        let i = k - 1;
-        let y = high_end(tails, heads, rank, i);
-        if p < y {
-            put(after, p, y as u32);
-        }
-        k = wide(next[i]);
-    }
-}
-
-// Puts the rows of p's children, but for p itself, into the set of p.
-fn put_children(
-    first: &[u32],
-    heads: &[u32],
-    n: usize,
-    p: usize,
-    at: &[u32; 4096],
-    next: &[u32; 4096],
-    after: &mut [u32; 4096],
-)
-    requires { ⌜ RowsIn (now first) (now heads) n p × (p < n) × Threaded (parentIn (now first) (now heads) n) n 4096 p (now at) (now next) × Rises (now after) ⌝ }
-    ensures rises { λ _. ⌜ Rises (now (after .exit)) ⌝ }
-    ensures set { λ _. ⌜ ((S : ℕ → Bool) → Holds S n p (now (after .entry)) → Holds (withChildren (now (first .entry)) (now (heads .entry)) n p S) n p (now (after .exit))) ⌝ }
-{
-    let mut k = wide(at[p]);
-    while 0 < k {
-        let c = k - 1;
-        let from = wide(first[c]);
-        let to = wide(first[c + 1]);
-        put_all(heads, from + 1, to, n, p, after);
-        k = wide(next[c]);
-    }
 }
 
 // Writes the members of the set of p, in ascending order, from place `at` of heads on.
@@ -139,40 +38,6 @@ fn write_row(after: &[u32; 4096], n: usize, p: usize, heads: &mut [u32], at: usi
         x = wide(after[x]);
     }
     Room::Next(k)
-}
-
-// Brings the row of p together: the higher ends of its arcs, and the rows of its children less p.
-fn gather_row(
-    tails: &[u32],
-    heads: &[u32],
-    rank: &[u32],
-    arc_at: &[u32; 4096],
-    arc_next: &[u32; 16384],
-    first: &[u32],
-    row_heads: &[u32],
-    child_at: &[u32; 4096],
-    child_next: &[u32; 4096],
-    n: usize,
-    p: usize,
-    after: &mut [u32; 4096],
-)
-    requires { ⌜ Gatherable (now tails) (now heads) (now rank) (now «arc_at») (now «arc_next») (now first) (now «row_heads») (now «child_at») (now «child_next») n p × Rises (now after) ⌝ }
-    ensures { λ _. ⌜ Rises (now (after .exit)) × Holds (gathered (now (tails .entry)) (now (heads .entry)) (now (rank .entry)) (now (first .entry)) (now («row_heads» .entry)) n p) n p (now (after .exit)) ⌝ }
-{
-    after[p] = n as u32;
-    put_arcs(tails, heads, rank, n, p, arc_at, arc_next, after);
-    put_children(first, row_heads, n, p, child_at, child_next, after);
-}
-
-// Threads p by its parent; n for none.
-fn thread_child(n: usize, p: usize, parent: usize, at: &mut [u32; 4096], next: &mut [u32; 4096])
-    requires { ⌜ (p < n) × (n ≤ 4096) ⌝ }
-    ensures { λ _. ⌜ ((f : ℕ → ℕ) → f p ≡ parent → Threaded f n 4096 p (now (at .entry)) (now (next .entry)) → Threaded f n 4096 (p + 1) (now (at .exit)) (now (next .exit))) ⌝ }
-{
-    if parent < n {
-        next[p] = at[parent];
-        at[parent] = (p + 1) as u32;
-    }
 }
 
 // Writes the row of p from place `at` of row_heads on, and threads p by its parent.

@@ -8,12 +8,12 @@ use lib.Dec.{eqb, ltb, leb}
 use lib.ListN.{length, getD, replicate, take}
 use borrow.Author.Tests.{leb-true, leb-false, lt-ltb, le-ltb, eq-eqb, ne-eqb}
 use Rattle.rules.specs.Costs.{none}
-use Rattle.rules.specs.Replies.{Reply, refused, edges, far, noWalk}
-use Rattle.rules.specs.Net.{net, rankList}
+use Rattle.rules.specs.Replies.{Reply, refused, edges, done, far, noWalk}
+use Rattle.rules.specs.Net.{Net, net, rankList}
 use Rattle.rules.specs.Graph.{firstList, headsList, edgeCount}
 use Rattle.rules.specs.Refusals.{passes, fails, check1, check4, check6, check7, check10, check11}
 use Rattle.rules.specs.Hierarchy.{itsE}
-use Rattle.rules.specs.Calls.{buildLeft, buildChecks, buildLeaves, distanceLeft, distanceChecks, listedDistance, distanceLeaves}
+use Rattle.rules.specs.Calls.{buildLeft, buildChecks, buildLeaves, customiseLeft, customiseChecks, customiseLeaves, distanceLeft, distanceChecks, listedDistance, distanceLeaves}
 use Rattle.theory.proofs.Laws.{either, split}
 use Rattle.theory.proofs.Verdicts.{first-passes}
 use Rattle.theory.proofs.Accepted.{passes1, passes7, passes10, passes11}
@@ -23,6 +23,7 @@ use Rattle.theory.proofs.BuildFits.{Buildable, buildable}
 use Rattle.graph.specs.Contracted.{Left, left, contracted}
 use Rattle.graph.specs.declared.Room.{Room}
 use Rattle.graph.specs.declared.Room.the-variants.{Next, Full}
+use Rattle.customise.specs.Steps.{CustomisedLists}
 use Rattle.distance.specs.Labelled.{Lists, count}
 
 -- ---- build
@@ -90,6 +91,20 @@ module _ (tails heads order rank₀ first₀ rowHeads₀ : List ℕ) (c : buildC
       let g : left room first rowHeads ≡ left Full (replicate (suc (length order)) 0) (replicate (length rowHeads₀) 0) = rw d at f in
       let er : Next e ≡ Full = sym o ∙ ap (λ (l : Left). l .reply) g in
       let z : _≡_ {A = ℕ} 0 1 = cc in absurd (omega arith))
+
+-- ---- customise
+
+module _ (N : Net) (rank first rowHeads up₀ down₀ : List ℕ) where
+  pub customise-refused : (k p : ℕ) → customiseChecks N rank first rowHeads up₀ down₀ ≡ fails k p
+      → customiseLeft up₀ down₀ (refused k p) ≡ customiseLeaves N rank first rowHeads up₀ down₀
+  unfolding customiseLeaves
+  customise-refused k p e = rw e refl
+
+  pub customise-done : (up down : List ℕ) → customiseChecks N rank first rowHeads up₀ down₀ ≡ passes
+      → CustomisedLists N first rowHeads (length up₀) (length down₀) up down
+      → customiseLeft up down done ≡ customiseLeaves N rank first rowHeads up₀ down₀
+  unfolding customiseLeaves
+  customise-done up down e l = rw (e, l .0, l .1) refl
 
 -- ---- distance
 

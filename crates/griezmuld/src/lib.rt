@@ -2,18 +2,22 @@
 // Each promise is one equation: what the call leaves, reply and every lent list, is the definition at what it got.
 
 ghost use mathlib.Core.Path.{_≡_};
-ghost use Rattle.rules.specs.Replies.{buildReply, distanceReply};
-ghost use Rattle.rules.specs.Calls.{buildLeft, buildLeaves, distanceLeft, distanceLeaves};
+ghost use Rattle.rules.specs.Net.{net};
+ghost use Rattle.rules.specs.Replies.{buildReply, customiseReply, distanceReply};
+ghost use Rattle.rules.specs.Calls.{buildLeft, buildLeaves, customiseLeft, customiseLeaves, distanceLeft, distanceLeaves};
+use checks::check_customise;
+use checks::check_distance;
+use customise::customise_costs;
 use distance::ask;
 use graph::Room;
 use graph::clear;
 use graph::contract;
-use hierarchy::check_distance;
 use lists::Check;
 use lists::check_build;
 use lists::fill_rank;
 use lists::position_of;
 use rules::BuildAnswer;
+use rules::CustomiseAnswer;
 use rules::DistanceAnswer;
 use rules::Junction;
 use rules::Refusal;
@@ -38,6 +42,37 @@ pub fn build(
         return BuildAnswer::Refused(Refusal::HeadsRoom);
     };
     BuildAnswer::Edges(e)
+}
+
+// Costs to shortcut costs: up and down are filled, each to its own end.
+pub fn customise(
+    tails: &[u32],
+    heads: &[u32],
+    costs: &[u32],
+    order: &[u32],
+    rank: &[u32],
+    first: &[u32],
+    row_heads: &[u32],
+    up: &mut [u32],
+    down: &mut [u32],
+) -> CustomiseAnswer
+    ensures { λ r. ⌜ customiseLeft (now (up .exit)) (now (down .exit)) (customiseReply r) ≡ customiseLeaves (net (now (tails .entry)) (now (heads .entry)) (now (costs .entry)) (now (order .entry))) (now (rank .entry)) (now (first .entry)) (now («row_heads» .entry)) (now (up .entry)) (now (down .entry)) ⌝ }
+{
+    if let Check::Fails(refusal) = check_customise(
+        tails,
+        heads,
+        costs,
+        order,
+        rank,
+        first,
+        row_heads,
+        up,
+        down,
+    ) {
+        return CustomiseAnswer::Refused(refusal);
+    }
+    customise_costs(tails, heads, costs, order, rank, first, row_heads, up, down);
+    CustomiseAnswer::Done
 }
 
 // The distance between two junctions, by the lists as they are.

@@ -1,3 +1,3 @@
 pub mod SameRows
 pub mod RowLaws
-pub mod CheckLaws
+pub mod GraphLaws

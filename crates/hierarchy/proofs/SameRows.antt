@@ -2,7 +2,7 @@
 use Prim.Native.Nat.{ℕ, zero, suc, _+_, _≤_, _<_}
 use mathlib.Core.Path.{_≡_, refl, sym, ap, _∙_, subst}
 use mathlib.Core.Logic.{_≢_}
-use mathlib.Core.Bool.{Bool, true, false, _&&_}
+use mathlib.Core.Bool.{_&&_, and-assoc}
 use mathlib.Core.List.{List, [], _∷_}
 use native.Mathlib.Omega.{arith}
 use lib.Dec.{T, eqb, ltb, leb}
@@ -11,52 +11,53 @@ use borrow.Author.Tests.{eqb-true, eqb-false}
 use Rattle.rules.specs.Words.{each, has}
 use Rattle.rules.specs.Hierarchy.{rowAt, inverts, firstRises, headsReach, ascends, rowAscends, allIn, restInParent, isHierarchy}
 use Rattle.theory.proofs.Laws.{either, split, same-test, and-l, and-r, and-i, eqb-e, eqb-i, ltb-e, ltb-i, each-e, each-i, has-here, has-there, has-nil, has-cons}
-use Rattle.theory.proofs.Ranks.{Ordered}
+use Rattle.theory.proofs.Ranks.{Ordered, inverse}
 use Rattle.theory.proofs.GraphRows.{ascends-e, ascends-i, ascends-has}
 use Rattle.hierarchy.specs.Tests.{seatAgrees, seatsAgree, rowsHold, inOrder, underParent, rowHolds}
 
 -- ---- the order and the rank list
 
+-- the rank list gives back position p: the junction there is one of the net, and its rank is p
+abbrev pub SeatedAt : List ℕ → List ℕ → ℕ → Type 0
+SeatedAt order rank p = (getD order p 0 < length order) × (getD rank (getD order p 0) 0 ≡ p)
+
+-- the test says so of every position
+pub seats-e : (order rank : List ℕ) → T (seatsAgree order rank) → (p : ℕ) → p < length order → SeatedAt order rank p
+unfolding seatsAgree
+seats-e order rank t p l =
+    let u : T (seatAgrees order rank p) = each-e (seatAgrees order rank) (length order) p (search and-r) l in
+    (search (ltb-e, and-l), search (eqb-e, and-r))
+
+-- and it passes where that is so
+pub seats-i : (order rank : List ℕ) → length rank ≡ length order → ((p : ℕ) → p < length order → SeatedAt order rank p) → T (seatsAgree order rank)
+unfolding seatsAgree
+seats-i order rank e h =
+    and-i (eqb (length rank) (length order)) (each (seatAgrees order rank) (length order)) (eqb-i (length rank) (length order) e)
+    (each-i (seatAgrees order rank) (length order) (λ p l. let (a, b) = h p l in search (and-i, ltb-i, eqb-i)))
+
 -- where the rank list gives back every position, the order is one and the rank list inverts it
 pub seats-right : (order rank : List ℕ) → T (seatsAgree order rank) → Ordered order × T (inverts order rank)
 unfolding seatsAgree inverts
-seats-right order rank t = (
-  record {
-    within = λ p l. ltb-e (getD order p 0) (length order) (and-l (ltb (getD order p 0) (length order)) (eqb (getD rank (getD order p 0) 0) p) (seat p l));
-    once = λ p q k l e. sym (back p k) ∙ ap (λ j. getD rank j 0) e ∙ back q l;
-  },
-  and-i (eqb (length rank) (length order)) (each (λ p. eqb (getD rank (getD order p 0) 0) p) (length order)) (search and-l)
-      (each-i (λ p. eqb (getD rank (getD order p 0) 0) p) (length order) (λ p l. eqb-i (getD rank (getD order p 0) 0) p (back p l))),
-)
-  where
-    seat : (p : ℕ) → p < length order → T (seatAgrees order rank p)
-    seat p l = each-e (seatAgrees order rank) (length order) p (search and-r) l
-
-    back : (p : ℕ) → p < length order → getD rank (getD order p 0) 0 ≡ p
-    back p l = eqb-e (getD rank (getD order p 0) 0) p (and-r (ltb (getD order p 0) (length order)) (eqb (getD rank (getD order p 0) 0) p) (seat p l))
+seats-right order rank t =
+    let back : (p : ℕ) → p < length order → getD rank (getD order p 0) 0 ≡ p = λ p l. seats-e order rank t p l .1 in (
+      record {
+        within = λ p l. seats-e order rank t p l .0;
+        once = λ p q k l e. sym (back p k) ∙ ap (λ j. getD rank j 0) e ∙ back q l;
+      },
+      and-i (eqb (length rank) (length order)) (each (λ p. eqb (getD rank (getD order p 0) 0) p) (length order)) (search and-l)
+          (each-i (λ p. eqb (getD rank (getD order p 0) 0) p) (length order) (λ p l. eqb-i (getD rank (getD order p 0) 0) p (back p l))),
+    )
 
 -- and an order with the rank list that inverts it passes that test
 pub right-seats : {order : List ℕ} (rank : List ℕ) → Ordered order → T (inverts order rank) → T (seatsAgree order rank)
-unfolding seatsAgree inverts
 right-seats {order} rank o t =
-    and-i (eqb (length rank) (length order)) (each (seatAgrees order rank) (length order)) (search and-l)
-    (each-i (seatAgrees order rank) (length order)
-    (λ p l.
-    and-i (ltb (getD order p 0) (length order)) (eqb (getD rank (getD order p 0) 0) p)
-    (ltb-i (getD order p 0) (length order) (o .within p l))
-    (each-e (λ p. eqb (getD rank (getD order p 0) 0) p) (length order) p (search and-r) l)))
+    let v = inverse rank o t in
+    seats-i order rank (v .long) (λ p l. (o .within p l, v .back p l))
 
 -- the definition of a hierarchy is the rank list's test and the rows' test
 pub hierarchy-parts : (order rank first heads : List ℕ) → isHierarchy order rank first heads ≡ (inverts order rank && rowsHold (length order) first heads)
 unfolding isHierarchy rowsHold
-hierarchy-parts order rank first heads =
-    regroup (inverts order rank) (firstRises (length order) first) (headsReach (length order) first heads)
-    (each (rowAscends (length order) first heads) (length order))
-    (each (λ p. restInParent first heads (rowAt first heads p)) (length order))
-  where
-    regroup : (a b c d e : Bool) → (a && b && c && d && e) ≡ (a && (b && c && d && e))
-    regroup true b c d e = refl
-    regroup false b c d e = refl
+hierarchy-parts order rank first heads = simp and-assoc
 
 -- ---- lists in order in others
 

@@ -1,14 +1,12 @@
 -- The tests that the checks of a graph's lists make: the order and the rank list by one, the rows by the parent's row.
 -- Assumes nothing.
 use Prim.Native.Nat.{ℕ, suc, _≤_, _<_}
-use mathlib.Core.Bool.{Bool, true, false, cond, not, _&&_}
+use mathlib.Core.Bool.{Bool, true, false, cond, _&&_}
 use mathlib.Core.List.{List, [], _∷_}
-use mathlib.Core.Path.{_≡_}
 use lib.Dec.{eqb, ltb, leb}
 use lib.ListN.{length, getD}
 use Rattle.rules.specs.Words.{each}
-use Rattle.rules.specs.Hierarchy.{rowAt, firstRises, headsReach, rowAscends, restInParent, linked}
-use Rattle.theory.proofs.Rows.{Rows}
+use Rattle.rules.specs.Hierarchy.{rowAt, firstRises, headsReach, rowAscends, restInParent}
 
 -- the junction at position p is one of the net, and the rank list gives p back
 abbrev pub seatAgrees : List ℕ → List ℕ → ℕ → Bool
@@ -50,25 +48,3 @@ rowHolds n first heads p =
 pub record RowsFrom (n : ℕ) (first heads : List ℕ) (p : ℕ) : Type 0 where
   pub fits : getD first p 0 ≤ length heads
   pub rise : (q : ℕ) → p ≤ q → q < n → (getD first q 0 ≤ getD first (suc q) 0) × (getD first (suc q) 0 ≤ length heads)
-
--- x is a position of a hierarchy's rows, and y is no lower
-pub record RowOf (first heads : List ℕ) (x y : ℕ) : Type 0 where
-  pub count : ℕ
-  pub rows : Rows count first heads
-  pub inside : x < count
-  pub higher : x ≤ y
-
--- arc i has unequal ends and no edge
-unfoldable pub lacksEdge : List ℕ → List ℕ → List ℕ → List ℕ → List ℕ → ℕ → Bool
-unfolding linked
-lacksEdge tails heads rank first rowHeads i =
-    not (eqb (getD tails i 0) (getD heads i 0))
-    && not (linked first rowHeads (getD rank (getD tails i 0) 0) (getD rank (getD heads i 0) 0))
-
--- arcs between junctions of the net, which stand at positions of a hierarchy's rows: what checks 2, 3, 4 and 7 establish
-pub record Arcs (tails heads rank first rowHeads : List ℕ) : Type 0 where
-  pub same : length heads ≡ length tails
-  pub tails-in : (i : ℕ) → i < length tails → getD tails i 0 < length rank
-  pub heads-in : (i : ℕ) → i < length tails → getD heads i 0 < length rank
-  pub positions : (j : ℕ) → j < length rank → getD rank j 0 < length rank
-  pub rows : Rows (length rank) first rowHeads

@@ -1,5 +1,5 @@
 -- The array of next members: what putting one member in does to it. Assumes nothing.
-use Prim.Native.Nat.{ℕ, zero, suc, _+_, _-_, _≤_, _<_}
+use Prim.Native.Nat.{ℕ, _≤_, _<_}
 use mathlib.Core.Path.{_≡_, refl, sym, ap, _∙_, subst, subst₂}
 use mathlib.Core.Logic.{_⊎_, inl, inr, _≢_}
 use mathlib.Core.Bool.{Bool}
@@ -20,12 +20,15 @@ same-or-not a b = either (split (eqb a b)) (λ e. inl (eqb-true a b e)) (λ e. i
 -- ---- two stores: y behind x, and z behind y
 
 module _ (a : List ℕ) (x y z : ℕ) (long : length a ≡ 4096) (low : x < y) (fits : y < 4096) where
+  -- at x stands y
   at-x : getD (set (set a y z) x y) x 0 ≡ y
   at-x = getD-set-same (set a y z) x y 0 (omega (arith, length-set a y z))
 
+  -- at y stands z
   at-y : getD (set (set a y z) x y) y 0 ≡ z
   at-y = getD-set-other (set a y z) x y y 0 (omega arith) ∙ getD-set-same a y z 0 (omega arith)
 
+  -- every other place is as it was
   at-other : (w : ℕ) → w ≢ x → w ≢ y → getD (set (set a y z) x y) w 0 ≡ getD a w 0
   at-other w d f = getD-set-other (set a y z) x w y 0 d ∙ getD-set-other a y w z 0 f
 
@@ -69,7 +72,7 @@ holds-nobody a p n u up few =
     }
 
 -- sets with the same members are held by the same array
-pub holds-same : (S R : ℕ → Bool) (n p : ℕ) (a : List ℕ) → ((q : ℕ) → T (R q) → T (S q)) → ((q : ℕ) → T (S q) → T (R q)) → Holds S n p a → Holds R n p a
+holds-same : (S R : ℕ → Bool) (n p : ℕ) (a : List ℕ) → ((q : ℕ) → T (R q) → T (S q)) → ((q : ℕ) → T (S q) → T (R q)) → Holds S n p a → Holds R n p a
 holds-same S R n p a f g h =
     record {
       bounds = λ q t. h .bounds q (f q t);
@@ -84,6 +87,7 @@ module _ (S : ℕ → Bool) (n p x y : ℕ) (a : List ℕ) (h : Holds S n p a) (
   abbrev put-behind : List ℕ
   put-behind = set (set a y (getD a x 0)) x y
 
+  -- nothing of the set lies below p
   from-p : (w : ℕ) → (w ≡ p) ⊎ T (S w) → p ≤ w
   from-p w s = either s (λ e. omega arith) (λ t. omega (arith, h .bounds w t))
 
@@ -124,6 +128,7 @@ module _ (S : ℕ → Bool) (n p x y : ℕ) (a : List ℕ) (h : Holds S n p a) (
             (λ e. apart b c (omega arith) (omega arith));
       }
     where
+      -- y lies behind x and so behind no other
       apart : NextAbove S n w (getD a w 0) → NextAbove S n x (getD a x 0) → w < y → y < getD a w 0 → ⊥
       apart b c l m =
           either (split (ltb w x))
@@ -135,7 +140,7 @@ module _ (S : ℕ → Bool) (n p x y : ℕ) (a : List ℕ) (h : Holds S n p a) (
           either s (λ i. omega (arith, from-p x here)) (λ t. c .between w k (omega arith) t))
 
   -- the set with y is held once y stands behind x, and behind y what stood behind x
-  pub put-holds : Holds (also S y) n p put-behind
+  put-holds : Holds (also S y) n p put-behind
   put-holds =
       let small : y < 4096 = omega arith in
       record {
@@ -155,10 +160,6 @@ pub record Reached (from y : ℕ) (a : List ℕ) (x z : ℕ) : Type 0 where
   pub low : x < y
   pub next : z ≡ getD a x 0
   pub reach : (S : ℕ → Bool) (n p : ℕ) → Holds S n p a → y < n → (from ≡ p) ⊎ T (S from) → (x ≡ p) ⊎ T (S x)
-
--- it starts where it is told
-pub reached-start : (from y : ℕ) (a : List ℕ) → from < y → Reached from y a from (getD a from 0)
-reached-start from y a l = record { low = l; next = refl; reach = λ S n p h m w. w }
 
 -- it goes on where what stands behind is still below y
 pub reached-more : (from y : ℕ) (a : List ℕ) (x z : ℕ) → Reached from y a x z → z < y → Reached from y a z (getD a z 0)

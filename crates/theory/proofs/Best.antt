@@ -19,6 +19,7 @@ unfolding least
 best-start f top at = record { is = refl; spot = λ h. absurd (omega arith) }
 
 module _ {f : ℕ → ℕ} {top i best at : ℕ} (B : Best f top i best at) where
+  -- never over the top
   pub best-top : best ≤ top
   best-top = omega (arith, B .is, least-start f top i)
 

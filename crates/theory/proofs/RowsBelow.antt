@@ -1,7 +1,7 @@
 -- The rows below a position, one after the other: how many entries they have, and that more rows only go behind them. Assumes nothing.
-use Prim.Native.Nat.{ℕ, zero, suc, _+_, _-_, _*_, _≤_, _<_}
-use mathlib.Core.Path.{_≡_, refl, ap, _∙_, subst}
-use mathlib.Core.List.{List, [], _++_}
+use Prim.Native.Nat.{ℕ, zero, suc, _-_, _*_, _≤_, _<_}
+use mathlib.Core.Path.{_≡_, refl, ap, _∙_}
+use mathlib.Core.List.{[], _++_}
 use native.Mathlib.Omega.{arith}
 use lib.Dec.{eqb}
 use lib.ListN.{length, take, length-append}
@@ -36,7 +36,7 @@ module _ (N : Net) where
       omega (arith, ap length (rows-more p), length-append (rowsBelow N p) (row N p), row-few p, rows-small few p)
 
   -- the rows below q begin with the rows below p
-  pub rows-front : (q p : ℕ) → p ≤ q → take (length (rowsBelow N p)) (rowsBelow N q) ≡ rowsBelow N p
+  rows-front : (q p : ℕ) → p ≤ q → take (length (rowsBelow N p)) (rowsBelow N q) ≡ rowsBelow N p
   rows-front zero p h =
       let e : p ≡ 0 = omega arith in
       rw e (take-length (rowsBelow N 0))

@@ -5,7 +5,7 @@ use Rattle.distance.proofs.ask.Statement.{statement}
 use Rattle.distance.proofs.ask.Tie as tie
 
 meet-requires : tie.Need-meet-requires
-meet-requires c κs = chained (c .before .before .before .before .before .before .before .before .before .before .before .before .pre .0) (c .before .before .before .before .before .before .before .before .before .before .before .before .pre .2) (c .before .before .climb2 .ensures)
+meet-requires c κs = let s = c .before .before .before .before .before .before .before .before .before .before .before .before in chained (s .pre .0) (s .pre .2) (c .before .before .climb2 .ensures)
 
 returns : tie.Need-returns
 returns c = met-listed (c .before .before .before .before .before .before .before .before .before .before .before .before .before .pre .0) (c .before .before .before .before .before .before .climb .ensures) (c .before .before .before .climb2 .ensures) (c .meet .ensures)

@@ -22,12 +22,19 @@ loop-holds : tie.Need-loop-holds Inv-loop μ-loop
 loop-holds c = handed-start _ _ _ _ _ _
 
 offer-requires : tie.Need-offer-requires Inv-loop μ-loop
-offer-requires c κs = let s = c .before .before .before .before .before .before .before .before .before .before .before in
-    let v = c .before .before .before .before .before .before .loop .inv in
-    (v .long ∙ s .pre .long, v .came-long ∙ s .pre .came-long, omega (arith, c .before .wide .ensures, s .pre .within (c .before .before .before .before .before .before .loop .i) (c .before .before .before .before .before .loop-test .taken)), s .pre .small (c .before .before .before .before .before .before .before .if1 .left))
+offer-requires c κs =
+    let l = c .before .before .before .before .before .before in
+    let p = l .before .before .before .before .before .pre in (
+      l .loop .inv .long ∙ p .long,
+      l .loop .inv .came-long ∙ p .came-long,
+      omega (arith, c .before .wide .ensures, p .within (l .loop .i) (c .before .before .before .before .before .loop-test .taken)),
+      p .small (l .before .if1 .left),
+    )
 
 loop-again : tie.Need-loop-again Inv-loop μ-loop
-loop-again c = handed-more _ _ _ _ _ _ (c .before .before .before .before .before .before .before .before .before .before .before .before .pre .climbs) (c .before .before .before .before .before .before .before .loop .inv) (c .before .before .before .before .before .before .loop-test .taken) (c .before .before .wide .ensures) (c .offer .ensures)
+loop-again c =
+    let l = c .before .before .before .before .before .before .before in
+    handed-more _ _ _ _ _ _ (l .before .before .before .before .before .pre .climbs) (l .loop .inv) (c .before .before .before .before .before .before .loop-test .taken) (c .before .before .wide .ensures) (c .offer .ensures)
 
 returns-2 : tie.Need-returns-2 Inv-loop μ-loop
 returns-2 c = handed-all _ _ _ _ _ _ (c .before .loop .inv) (c .loop-test .left)

@@ -1,4 +1,4 @@
--- `meet` meets its contract: q has been looked at, and what has a label above q is on its chain of parents. Assumes nothing.
+-- `meet` meets its contract: p has been looked at, and what has a label above p is on its chain of parents. Assumes nothing.
 use borrow.Author.Needs.{needs}
 use Prim.Native.Nat.{_-_, _<_}
 use native.Mathlib.Omega.{arith}
@@ -9,16 +9,18 @@ use Rattle.distance.proofs.meet.Statement.{statement}
 use Rattle.distance.proofs.meet.Tie as tie
 
 abbrev Inv-loop : tie.InvT-loop
-Inv-loop first row-heads a b q₀ best₀ from₀ to₀ q best from to = Looked first row-heads q from to a b (best .sum) (best .at)
+Inv-loop first row-heads a b p₀ best₀ from₀ to₀ p best from to = Looked first row-heads p from to a b (best .sum) (best .at)
 
 abbrev μ-loop : tie.MeasureT-loop
-μ-loop first row-heads a b q₀ best₀ from₀ to₀ q best from to = count first - q
+μ-loop first row-heads a b p₀ best₀ from₀ to₀ p best from to = count first - p
 
 loop-holds : tie.Need-loop-holds Inv-loop μ-loop
-loop-holds c = looked-start (rw (← c .before .before .before .before .before .wide .ensures) at (c .before .before .before .before .before .before .before .before .pre)) (c .before .before .wide2 .ensures) (c .wide3 .ensures) (c .before .before .before .before .look .ensures)
+loop-holds c =
+    let w = c .before .before .before .before .before in
+    looked-start (rw (← w .wide .ensures) at (w .before .before .before .pre)) (c .before .before .wide2 .ensures) (c .wide3 .ensures) (c .before .before .before .before .look .ensures)
 
 -- the parent is a higher position
-parent : (c : tie.After-wide4 Inv-loop μ-loop) → (c .before .before .before .loop .q < c .wide4 .result) × (c .wide4 .result < count (c .before .before .before .before .before .before .before .before .before .before .before .before .args .first .now))
+parent : (c : tie.After-wide4 Inv-loop μ-loop) → (c .before .before .before .loop .p < c .wide4 .result) × (c .wide4 .result < count (c .before .before .before .before .before .before .before .before .before .before .before .before .args .first .now))
 parent c =
     parent-higher (c .before .before .before .before .before .before .before .before .before .before .before .before .pre .rows) (c .before .before .before .loop .inv .ends) (c .before .before .loop-test .taken) (c .wide4 .result) (c .wide4 .ensures)
 
@@ -44,7 +46,9 @@ loop-less : tie.Need-loop-less Inv-loop μ-loop
 loop-less c = omega (arith, parent (c .before .before .before .before .before))
 
 loop-again : tie.Need-loop-again Inv-loop μ-loop
-loop-again c = looked-next (c .before .before .before .before .before .before .before .before .before .before .before .before .before .before .before .before .before .pre) (c .before .before .before .before .before .before .before .before .loop .inv) (c .before .before .before .before .before .before .before .loop-test .taken) (c .before .before .before .before .before .wide4 .ensures) (c .before .before .wide5 .ensures) (c .wide6 .ensures) (c .before .before .before .before .look2 .ensures)
+loop-again c =
+    let l = c .before .before .before .before .before .before .before .before in
+    looked-next (l .before .before .before .before .before .before .before .before .before .pre) (l .loop .inv) (c .before .before .before .before .before .before .before .loop-test .taken) (c .before .before .before .before .before .wide4 .ensures) (c .before .before .wide5 .ensures) (c .wide6 .ensures) (c .before .before .before .before .look2 .ensures)
 
 returns : tie.Need-returns Inv-loop μ-loop
 returns c = looked-end (c .before .before .before .before .before .before .before .before .before .before .pre) (c .before .loop .inv) (c .loop-test .left)

@@ -1,13 +1,13 @@
 -- The rank list decides between 4 and 7, and the rows decide 7. Assumes nothing.
 use mathlib.Core.Path.{refl, sym, _∙_}
 use borrow.Author.Tests.{not-true, not-false}
-use Rattle.hierarchy.proofs.CheckLaws.{told, graph-unranked, graph-rowless, graph-passes}
+use Rattle.hierarchy.proofs.GraphLaws.{told, graph-unranked, graph-rowless, graph-passes}
 use borrow.Author.Needs.{needs}
 use Rattle.hierarchy.proofs.check_graph.Statement.{statement}
 use Rattle.hierarchy.proofs.check_graph.Tie as tie
 
 returns : tie.Need-returns
-returns c = rw (told (c .before .before .before .check-order .ensures) (c .before .refusal .given .1)) refl
+returns c = rw (told (c .before .before .before .check-order .ensures) (c .before .fault .given .1)) refl
 
 returns-2 : tie.Need-returns-2
 returns-2 c = let a = c .before .before .before .before .before .before .before .before .before .args in

@@ -26,7 +26,7 @@ returns-3 c = let v = c .before .before .before .before .before in
     let a = s .args in
     let u = c .before .wide3 in
     row-low (a .n) (a .first .now) (a .heads .now) (a .p) (w .wide .result) (v .wide2 .result) (w .wide .ensures) (v .wide2 .ensures)
-    (u .result) (u .ensures) (omega (arith, c .before .before .before .before .if1 .left, c .before .before .before .if2 .left)) (omega (arith, v .wide2 .ensures, s .pre .2 .fits)) (c .if3 .taken)
+    (u .result) (u .ensures) (omega (arith, c .before .before .before .before .if1 .left, c .before .before .before .if2 .left)) (omega (arith, v .wide2 .ensures, s .pre .2 .fits)) (omega (arith, c .if3 .taken))
 
 returns-4 : tie.Need-returns-4
 returns-4 c = let v = c .before .before .before .before .before .before in
