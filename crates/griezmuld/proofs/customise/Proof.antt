@@ -1,61 +1,33 @@
+-- `customise` meets its promise. Assumes nothing.
 use borrow.Author.Needs.{needs}
+use mathlib.Core.Path.{_≡_, sym, ap, _∙_}
+use Rattle.lists.specs.Lent.{verdict}
+use Rattle.rules.specs.Net.{net}
+use Rattle.theory.proofs.Accepted.{accepted}
+use Rattle.griezmuld.proofs.FaceLaws.{customise-refused, customise-done}
 use Rattle.griezmuld.proofs.customise.Statement.{statement}
 use Rattle.griezmuld.proofs.customise.Tie as tie
-use Rattle.griezmuld.proofs.customise.Reads as reads
-use Rattle.griezmuld.proofs.customise.Lts as lts
-use Rattle.checks.proofs.check_customise.Reads as check-customise-reads
-use Rattle.customise.proofs.customise_costs.Reads as customise-costs-reads
 
--- src/lib.rt:61:36
-check-customise-requires : tie.Need-check-customise-requires
-check-customise-requires c κs = search needs
-
--- src/lib.rt:61:25
-enum-known-refusal : tie.Need-enum-known-refusal
-enum-known-refusal c = search needs
-
--- src/lib.rt:72:9
-same-length : tie.Need-same-length
-same-length c = search needs
-
--- src/lib.rt:72:9
-same-length-2 : tie.Need-same-length-2
-same-length-2 c = search needs
-
--- src/lib.rt:72:9
 returns : tie.Need-returns
-returns c = search needs
+returns c = let a = c .before .before .before .before .before .before .before .before .before .before .before .before .before .before .before .args in customise-refused (net (a .tails .now) (a .heads .now) (a .costs .now) (a .order .now)) (a .rank .now) (a .first .now) (a .row-heads .now) (a .up .now) (a .down .now) _ _ (sym (c .before .before .before .check-customise .ensures) ∙ ap verdict (c .before .refusal .given .1))
 
-enum-told : tie.Need-enum-told
-enum-told c = search needs
-
--- src/lib.rt:74:5
 customise-costs-requires : tie.Need-customise-costs-requires
-customise-costs-requires c κs = search needs
+customise-costs-requires c κs = let a = c .before .before .before .before .before .before .before .before .before .before .before .before .before .before .before .before .args in accepted (net (a .tails .now) (a .heads .now) (a .costs .now) (a .order .now)) (a .rank .now) (a .first .now) (a .row-heads .now) (a .up .now) (a .down .now) (sym (c .before .before .before .before .check-customise .ensures) ∙ ap verdict (c .before .before .enum-told .given .1))
 
--- src/lib.rt:48:1
-same-length-3 : tie.Need-same-length-3
-same-length-3 c = search needs
-
--- src/lib.rt:48:1
-same-length-4 : tie.Need-same-length-4
-same-length-4 c = search needs
-
--- src/lib.rt:48:1
 returns-2 : tie.Need-returns-2
-returns-2 c = search needs
+returns-2 c = let a = c .before .before .before .before .before .before .before .before .before .before .before .before .before .before .before .before .before .before .before .before .before .args in customise-done (net (a .tails .now) (a .heads .now) (a .costs .now) (a .order .now)) (a .rank .now) (a .first .now) (a .row-heads .now) (a .up .now) (a .down .now) _ _ (sym (c .before .before .before .before .before .before .before .before .before .check-customise .ensures) ∙ ap verdict (c .before .before .before .before .before .before .before .enum-told .given .1)) (c .before .before .before .before .customise-costs .ensures)
 
 pub customise-spec : {M : Type 1} → statement M
 customise-spec =
     tie.close
     (tie.spec
-    check-customise-requires
-    enum-known-refusal
-    same-length
-    same-length-2
+    (λ c κs. search needs)
+    (λ c. search needs)
+    (λ c. search needs)
+    (λ c. search needs)
     returns
-    enum-told
+    (λ c. search needs)
     customise-costs-requires
-    same-length-3
-    same-length-4
+    (λ c. search needs)
+    (λ c. search needs)
     returns-2)
