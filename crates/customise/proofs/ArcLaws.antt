@@ -19,9 +19,11 @@ use Rattle.customise.proofs.PlaceLaws.{stored, kept-store, row-end}
 -- ---- one arc, by the positions of its ends
 
 module _ {rank first heads : List ℕ} {t h x y : ℕ} (ex : x ≡ getD rank t 0) (ey : y ≡ getD rank h 0) (d : t ≢ h) where
+  -- from a lower to a higher position: what storing its cost asks, and the cost stored
   pub edge-rising : {ups downs : ℕ} → ArcFits rank first heads ups downs t h → x < y → Edge first heads ups x y
   edge-rising F l = rw (ex, ey) (F .rising d (omega arith))
 
+  -- from a higher to a lower position
   pub edge-falling : {ups downs : ℕ} → ArcFits rank first heads ups downs t h → y ≤ x → Edge first heads downs y x
   edge-falling F l = rw (ex, ey) (F .falling d (omega arith))
 

@@ -91,11 +91,13 @@ module _ {first heads : List ℕ} (R : Rows (count first) first heads) (z i : �
 -- ---- pairs, one after the other
 
 module _ {first heads : List ℕ} where
-  pub onward-none : (z i j : ℕ) (up down : List ℕ) → Onward first heads z i j up down i j up down
+  -- no step
+  onward-none : (z i j : ℕ) (up down : List ℕ) → Onward first heads z i j up down i j up down
   onward-none z i j up down =
       record { up-kept = kept-none (edgesOf first) up; down-kept = kept-none (edgesOf first) down; turning = λ road shut t. t }
 
-  pub onward-on : {z i j i′ j′ i″ j″ : ℕ} {up down up′ down′ up″ down″ : List ℕ} → Onward first heads z i j up down i′ j′ up′ down′
+  -- one step after another
+  onward-on : {z i j i′ j′ i″ j″ : ℕ} {up down up′ down′ up″ down″ : List ℕ} → Onward first heads z i j up down i′ j′ up′ down′
       → Onward first heads z i′ j′ up′ down′ i″ j″ up″ down″ → Onward first heads z i j up down i″ j″ up″ down″
   onward-on a b =
       record {
@@ -104,7 +106,8 @@ module _ {first heads : List ℕ} where
         turning = λ road shut t. b .turning road shut (a .turning road shut t);
       }
 
-  pub onward-next : {z i j i₀ j₀ : ℕ} {up down up₀ down₀ : List ℕ} → Rows (count first) first heads → z < count first → getD first (suc z) 0 ≤ j
+  -- the neighbour at place i is done: on to the next
+  onward-next : {z i j i₀ j₀ : ℕ} {up down up₀ down₀ : List ℕ} → Rows (count first) first heads → z < count first → getD first (suc z) 0 ≤ j
       → Onward first heads z i₀ j₀ up₀ down₀ i j up down → Onward first heads z i₀ j₀ up₀ down₀ (i + 1) (i + 1 + 1) up down
   onward-next {z} {i} {j} R zn l o =
       record {
@@ -194,6 +197,7 @@ room-on M u d =
     record { rows = M .rows; up-long = omega (arith, M .up-long, u .long); down-long = omega (arith, M .down-long, d .long) }
 
 module _ {first heads up₀ down₀ : List ℕ} {z : ℕ} (M : Room first heads (length up₀) (length down₀)) (zn : z < count first) where
+  -- no neighbour looked at yet
   pub neighbours-start : {end i : ℕ} → end ≡ getD first (z + 1) 0 → i ≡ getD first z 0 → Neighbours first heads z end up₀ down₀ up₀ down₀ i
   neighbours-start e d =
       record { end-is = e; from = omega arith; onward = rw d (onward-none z (getD first z 0) (getD first z 0 + 1) up₀ down₀) }
@@ -224,10 +228,12 @@ module _ {first heads up₀ down₀ : List ℕ} {z : ℕ} (M : Room first heads 
 -- ---- turns, one after the other
 
 module _ {first heads : List ℕ} where
+  -- no turn yet
   pub turned-none : (up down : List ℕ) → Turned first heads 0 up down 0 up down
   turned-none up down =
       record { up-kept = kept-none (edgesOf first) up; down-kept = kept-none (edgesOf first) down; stands = λ road shut s. s }
 
+  -- one turn after another
   pub turned-on : {z z′ z″ : ℕ} {up down up′ down′ up″ down″ : List ℕ} → Turned first heads z up down z′ up′ down′
       → Turned first heads z′ up′ down′ z″ up″ down″ → Turned first heads z up down z″ up″ down″
   turned-on a b =
@@ -237,10 +243,12 @@ module _ {first heads : List ℕ} where
         stands = λ road shut s. b .stands road shut (a .stands road shut s);
       }
 
+  -- the turns keep the room
   pub turned-room : {z z′ : ℕ} {up down up′ down′ : List ℕ} → Room first heads (length up) (length down) → Turned first heads z up down z′ up′ down′
       → Room first heads (length up′) (length down′)
   turned-room M t = room-on M (t .up-kept) (t .down-kept)
 
+  -- as many turns as there are positions
   pub turned-all : {z : ℕ} {up down up′ down′ : List ℕ} (n : ℕ) → z ≤ n → n ≤ z → Turned first heads 0 up down z up′ down′
       → Turned first heads 0 up down n up′ down′
   turned-all {z} {up} {down} {up′} {down′} n h g t =

@@ -33,9 +33,11 @@ pub record Closing (l₀ : List ℕ) (k : ℕ) (l : List ℕ) : Type 0 where
   pub within : k ≤ length l
   pub shut : (i : ℕ) → i < k → getD l i 0 ≡ closed
 
+-- at the start
 pub closing-start : (l : List ℕ) → Closing l 0 l
 closing-start l = record { long = refl; within = omega arith; shut = λ i h. absurd (omega arith) }
 
+-- one place more
 pub closing-more : (l₀ l l′ : List ℕ) (k : ℕ) → Closing l₀ k l → k < length l → l′ ≡ set l k closed → Closing l₀ (k + 1) l′
 closing-more l₀ l l′ k c h e =
     let s = stored l l′ k closed e h in
@@ -48,11 +50,13 @@ closing-more l₀ l l′ k c h e =
           (λ d. s .off i (eqb-false i k d) ∙ c .shut i (omega (arith, eqb-false i k d)));
     }
 
+-- every place: the list is CLOSED throughout
 pub closing-all : (l₀ l : List ℕ) (k : ℕ) → Closing l₀ k l → length l ≤ k → l ≡ replicate (length l₀) closed
 closing-all l₀ l k c h =
     ext-getD 0 l (replicate (length l₀) closed) (c .long ∙ sym (length-replicate (length l₀) closed))
     (λ i g. c .shut i (omega arith) ∙ sym (getD-replicate (length l₀) i closed 0 (omega (arith, c .long))))
 
+-- and as long as it was
 pub closed-long : (l : List ℕ) (n : ℕ) → l ≡ replicate n closed → length l ≡ n
 closed-long l n e = ap length e ∙ length-replicate n closed
 
@@ -64,9 +68,11 @@ pub record Past (e room : ℕ) (l : List ℕ) : Type 0 where
   pub long : length l ≡ room
   pub shut : (k : ℕ) → e ≤ k → k < room → getD l k 0 ≡ closed
 
+-- a step that keeps the rest keeps that
 past-kept : {e room : ℕ} {l l′ : List ℕ} → Past e room l → Kept e l l′ → Past e room l′
 past-kept p k = record { fits = p .fits; long = k .long ∙ p .long; shut = λ i h g. k .rest i h ∙ p .shut i h g }
 
+-- a list that is CLOSED throughout is so from any place on
 past-closed : (e room : ℕ) (l : List ℕ) → e ≤ room → l ≡ replicate room closed → Past e (length l) l
 past-closed e room l h d =
     let long : length l ≡ room = closed-long l room d in

@@ -104,9 +104,8 @@ module _ (tails heads order rank arcAt arcNext : List ℕ) (p at : ℕ) (first r
   pub parent-at : (b : List ℕ) → Holds brought (length order) p b → parentOf N p ≡ getD b p 0
   unfolding parentOf
   parent-at b held =
-      sym
-      (sym (first-member brought (length order) p (getD b p 0) (held .next p (inl refl)))
-      ∙ ap (λ l. getD l 0 (length order)) brought-row)
+      ap (λ l. getD l 0 (length order)) (sym brought-row)
+      ∙ first-member brought (length order) p (getD b p 0) (held .next p (inl refl))
 
   module _ (e : ℕ) (written : List ℕ) (w : (e ≤ length written) × (take e written ≡ take at rowHeads ++ members brought (length order) p)) where
     -- it ends where the rows below its successor end

@@ -9,6 +9,7 @@ use Rattle.rules.specs.Graph.{firstList, headsList, edgeCount}
 use Rattle.graph.specs.declared.Room.{Room}
 use Rattle.graph.specs.declared.Room.the-variants.{Next, Full}
 
+-- the reply, with what first and heads then hold
 pub record Left : Type 0 where
   pub reply : Room
   pub first : List ℕ

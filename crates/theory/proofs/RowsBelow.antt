@@ -24,7 +24,7 @@ module _ (N : Net) where
   unfolding rowsBelow
   rows-more p = refl
 
-  -- a row has fewer entries than there are positions
+  -- a row has no more entries than there are positions
   row-few : (p : ℕ) → length (row N p) ≤ size N
   unfolding row
   row-few p = omega (arith, those-few (joined N p) (suc p) (size N - suc p))

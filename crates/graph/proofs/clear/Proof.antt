@@ -1,6 +1,7 @@
 -- `clear` meets its contract. The loop's invariant: the places from `from` up to i are 0. Assumes nothing.
 use borrow.Author.Needs.{needs}
 use Prim.Native.Nat.{_-_}
+use native.Mathlib.Omega.{arith}
 use lib.ListN.{length}
 use Rattle.graph.proofs.Written.{Cleared, cleared-start, cleared-more, cleared-end}
 use Rattle.graph.proofs.clear.Statement.{statement}
@@ -16,10 +17,10 @@ loop-holds : tie.Need-loop-holds Inv-loop μ-loop
 loop-holds c = cleared-start _ _ (c .pre)
 
 loop-again : tie.Need-loop-again Inv-loop μ-loop
-loop-again c = cleared-more _ _ _ _ (c .before .loop .inv) (c .loop-test .taken)
+loop-again c = cleared-more _ _ _ _ (c .before .loop .inv) (omega arith)
 
 returns : tie.Need-returns Inv-loop μ-loop
-returns c = cleared-end _ _ _ _ (c .before .loop .inv) (c .loop-test .left)
+returns c = cleared-end _ _ _ _ (c .before .loop .inv) (omega arith)
 
 pub clear-spec : {M : Type 1} → statement M
 clear-spec =
