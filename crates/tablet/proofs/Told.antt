@@ -1,0 +1,19 @@
+-- From a call's answer to the plain numbers. Assumes nothing.
+use Prim.Native.Nat.{ℕ}
+use mathlib.Core.Path.{_≡_, ap}
+use mathlib.Core.List.{List}
+use Rattle.rules.specs.Replies.{Reply, numberTold, placeTold, edgesTold, distanceTold}
+use Rattle.rules.specs.Calls.{BuildLeaves, buildLeft, CustomiseLeaves, customiseLeft, DistanceLeaves, distanceLeft}
+use Rattle.tablet.specs.Numbers.{buildNumbers, buildTold, customiseNumbers, customiseTold, distanceNumbers, distanceToldOf}
+
+pub told-build : (r : Reply) (n p e : ℕ) (rank first heads : List ℕ) (l : BuildLeaves) → n ≡ numberTold r → p ≡ placeTold r → e ≡ edgesTold r
+    → buildLeft rank first heads r ≡ l → buildNumbers n p e rank first heads ≡ buildTold l
+told-build r n p e rank first heads l en ep ee el = rw (en, ep, ee) (ap buildTold el)
+
+pub told-customise : (r : Reply) (n p : ℕ) (up down : List ℕ) (l : CustomiseLeaves) → n ≡ numberTold r → p ≡ placeTold r
+    → customiseLeft up down r ≡ l → customiseNumbers n p up down ≡ customiseTold l
+told-customise r n p up down l en ep el = rw (en, ep) (ap customiseTold el)
+
+pub told-distance : (r : Reply) (n p d : ℕ) (l : DistanceLeaves) → n ≡ numberTold r → p ≡ placeTold r → d ≡ distanceTold r
+    → distanceLeft r ≡ l → distanceNumbers n p d ≡ distanceToldOf l
+told-distance r n p d l en ep ed el = rw (en, ep, ed) (ap distanceToldOf el)

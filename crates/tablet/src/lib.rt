@@ -1,0 +1,82 @@
+// The calls for C and Rust: every list is a pointer and a length, every answer plain numbers. include/griezmuld.h declares them.
+
+ghost use mathlib.Core.Path.{_≡_};
+ghost use Rattle.rules.specs.Net.{net};
+ghost use Rattle.rules.specs.Calls.{buildLeaves, customiseLeaves, distanceLeaves};
+ghost use Rattle.tablet.specs.Numbers.{buildNumbers, buildTold, customiseNumbers, customiseTold, distanceNumbers, distanceToldOf};
+use griezmuld::build;
+use griezmuld::customise;
+use griezmuld::distance;
+use rules::Junction;
+
+// Roads and order to the shortcut graph.
+#[no_mangle]
+pub extern "C" fn griezmuld_build(
+    tails: &[u32],
+    heads: &[u32],
+    order: &[u32],
+    rank: &mut [u32],
+    first: &mut [u32],
+    row_heads: &mut [u32],
+    place: &mut u64,
+    edges: &mut u64,
+) -> u32
+    ensures { λ r. ⌜ buildNumbers r (now (place .exit)) (now (edges .exit)) (now (rank .exit)) (now (first .exit)) (now («row_heads» .exit)) ≡ buildTold (buildLeaves (now (tails .entry)) (now (heads .entry)) (now (order .entry)) (now (rank .entry)) (now (first .entry)) (now («row_heads» .entry))) ⌝ }
+{
+    let answer = build(tails, heads, order, rank, first, row_heads);
+    *place = answer.place() as u64;
+    *edges = answer.edges() as u64;
+    answer.number()
+}
+
+// Costs to shortcut costs.
+#[no_mangle]
+pub extern "C" fn griezmuld_customise(
+    tails: &[u32],
+    heads: &[u32],
+    costs: &[u32],
+    order: &[u32],
+    rank: &[u32],
+    first: &[u32],
+    row_heads: &[u32],
+    up: &mut [u32],
+    down: &mut [u32],
+    place: &mut u64,
+) -> u32
+    ensures { λ r. ⌜ customiseNumbers r (now (place .exit)) (now (up .exit)) (now (down .exit)) ≡ customiseTold (customiseLeaves (net (now (tails .entry)) (now (heads .entry)) (now (costs .entry)) (now (order .entry))) (now (rank .entry)) (now (first .entry)) (now («row_heads» .entry)) (now (up .entry)) (now (down .entry))) ⌝ }
+{
+    let answer = customise(tails, heads, costs, order, rank, first, row_heads, up, down);
+    *place = answer.place() as u64;
+    answer.number()
+}
+
+// The distance between two junctions.
+#[no_mangle]
+pub extern "C" fn griezmuld_distance<'a>(
+    order: &[u32],
+    rank: &[u32],
+    first: &[u32],
+    row_heads: &[u32],
+    up: &'a [u32],
+    down: &'a [u32],
+    from: u32,
+    to: u32,
+    place: &mut u64,
+    distance_told: &mut u64,
+) -> u32
+    ensures { λ r. ⌜ distanceNumbers r (now (place .exit)) (now («distance_told» .exit)) ≡ distanceToldOf (distanceLeaves (now (order .entry)) (now (rank .entry)) (now (first .entry)) (now («row_heads» .entry)) (now (up .entry)) (now (down .entry)) from to) ⌝ }
+{
+    let answer = distance(
+        order,
+        rank,
+        first,
+        row_heads,
+        up,
+        down,
+        Junction(from),
+        Junction(to),
+    );
+    *place = answer.place() as u64;
+    *distance_told = answer.distance();
+    answer.number()
+}
