@@ -1,6 +1,6 @@
 .PHONY: run test
 
-# Proves crate rules and shows document 01's worked example.
+# Shows document 01's worked example, proved of the definitions, and runs its small examples by the library.
 run:
 	@scripts/run
 
