@@ -20,10 +20,11 @@ pub fn linked() -> String {
     #[cfg(feature = "standin")]
     return match standin::fault() {
         0 => "the stand-in, which is not the library".to_string(),
-        fault => format!(
-            "the stand-in with planted fault {fault} ({})",
-            faults()[fault as usize - 1]
-        ),
+        fault => {
+            let name = faults().get(fault as usize - 1);
+            let name = name.unwrap_or(&"there is none of that number");
+            format!("the stand-in with planted fault {fault} ({name})")
+        }
     };
     #[cfg(not(feature = "standin"))]
     "the library's archive".to_string()

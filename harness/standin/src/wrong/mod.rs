@@ -195,7 +195,11 @@ pub fn customise(l: CustomiseLists) -> Reply {
             l.up.copy_from_slice(&old[0]);
             l.down.copy_from_slice(&old[1]);
         }
-        6 | 8 | 12 | 24 | 25 if accepted => sloppy::customise(l),
+        6 | 8 | 12 | 24 | 25 if accepted => sloppy::customise(CustomiseLists {
+            up: l.up,
+            down: l.down,
+            ..l
+        }),
         10 if reply.number == 8 && l.costs[reply.place as usize] == CLOSED => {
             let (tails, heads) = without_closed(l.tails, l.heads, l.costs);
             return sound::customise(CustomiseLists {
