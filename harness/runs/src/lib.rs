@@ -7,6 +7,8 @@ pub mod garbage;
 pub mod guarded;
 pub mod judge;
 pub mod lists;
+pub mod measure;
+pub mod ready;
 pub mod real;
 pub mod shrink;
 pub mod subject;
