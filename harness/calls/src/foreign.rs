@@ -1,5 +1,7 @@
 //! The C functions as include/griezmuld.h declares them. Nothing checks one against the other: keep them alike.
 
+#![allow(unsafe_code)]
+
 extern "C" {
     pub fn griezmuld_build(
         tails: *const u32,

@@ -1,5 +1,7 @@
 //! The four calls with the bare numbers that they tell.
 
+#![allow(unsafe_code)]
+
 use crate::foreign;
 
 /// What stands in a number's place before a call that has to write it.

@@ -4,6 +4,7 @@ pub mod county;
 pub mod dimacs;
 pub mod order;
 pub mod source;
+pub mod stored;
 
 /// "CLOSED": the cost of a closed arc.
 pub const CLOSED: u32 = 4_294_967_295;

@@ -1,11 +1,11 @@
 //! The greatest sizes, and what lies just past them.
 
-use crate::case::{Case, Damage};
 use crate::judge::{compare_all, judge};
 use crate::lists::{compare, stale, Call, Lists, Outcome};
 use crate::subject::SUBJECTS;
 use crate::tally::Tally;
 use crate::{Told, CLOSED};
+use cases::{Case, Damage};
 use nets::{order, Net};
 
 /// The most junctions of a net.

@@ -1,6 +1,5 @@
 //! Garbage lists of every kind and length, and lists with a fault or two.
 
-use crate::case;
 use crate::judge::compare_all;
 use crate::lists::{expected, stale, Call, Lists};
 use crate::tally::Tally;
@@ -29,7 +28,7 @@ pub fn judge(handed: &Handed) -> Result<Tally, String> {
 /// Good lists of some small net, to be spoilt.
 pub fn good_lists(source: &mut Source) -> Lists {
     let case = loop {
-        let case = case::small(source);
+        let case = cases::small(source);
         if case.n <= 24 {
             break case;
         }

@@ -1,11 +1,11 @@
 //! Judges a case: every call on it, by both implementations, against the naive programs; and those against Dijkstra and
 //! Floyd-Warshall.
 
-use crate::case::Case;
 use crate::lists::{compare, expected, shown, stale, Call, Lent, Lists, Outcome};
 use crate::subject::{Subject, SUBJECTS};
 use crate::tally::Tally;
-use crate::{Told, CLOSED};
+use crate::Told;
+use cases::Case;
 use naive::calls::{Asked, Drive};
 use naive::roads::{in_force, Roads};
 use naive::unpacking::Met;
@@ -49,9 +49,14 @@ pub fn judge(case: &Case) -> Result<Tally, String> {
     }
     if !case.damage.is_empty() {
         questions.stage = "shortcut costs damaged";
-        lists.costs = case.costs.clone();
-        inflict(case, &mut lists);
-        questions.ask(&lists, &pairs, None)?;
+        let mut damaged = lists.clone();
+        damaged.costs = case.costs.clone();
+        inflict(case, &mut damaged);
+        questions.ask(&damaged, &pairs, None)?;
+    }
+    if case.later != case.costs && case.n <= EVERY_PAIR {
+        // roads shut and roads open again, over lists that hold the costs of before
+        compare_all(Call::Customise, &lists, &mut tally)?;
     }
     Ok(tally)
 }
@@ -200,7 +205,7 @@ impl Questions<'_> {
             let far = asked.distance(from, to);
             let drive = asked.drive(&roads, from, to, most);
             if let Some(truth) = &mut truth {
-                self.agree(lists, far, truth.distance(from, to), &drive)
+                self.agree(lists, &roads, far, truth.distance(from, to), &drive)
                     .map_err(|error| format!("{from} to {to}, {}: {error}", self.stage))?;
             }
             let rooms = self.rooms(&drive, most);
@@ -281,6 +286,7 @@ impl Questions<'_> {
     fn agree(
         &mut self,
         lists: &Lists,
+        roads: &Roads,
         told: Told,
         truth: Option<u64>,
         drive: &Drive,
@@ -302,11 +308,12 @@ impl Questions<'_> {
             };
             let arc = arc as usize;
             let (tail, head) = (lists.tails[arc], lists.heads[arc]);
-            let open = if lists.order.len() <= EVERY_PAIR {
-                in_force(&lists.tails, &lists.heads, &lists.costs, arc)
-            } else {
-                lists.costs[arc] != CLOSED
-            };
+            let mut open = roads
+                .get(tail, head)
+                .is_some_and(|road| road.arc == arc as u32);
+            if lists.order.len() <= EVERY_PAIR {
+                open &= in_force(&lists.tails, &lists.heads, &lists.costs, arc);
+            }
             if !open || passed.last().is_some_and(|&last| last != tail) || passed.contains(&head) {
                 return Err(format!(
                     "arc {arc} can't follow {passed:?}; one of the judges is wrong"

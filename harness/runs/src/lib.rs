@@ -1,7 +1,6 @@
 //! What the runs share: the calls under test, lists with guards, cases, judging, shrinking, reporting.
 
 pub mod bounds;
-pub mod case;
 pub mod examples;
 pub mod garbage;
 pub mod guarded;
@@ -9,7 +8,6 @@ pub mod judge;
 pub mod lists;
 pub mod measure;
 pub mod ready;
-pub mod real;
 pub mod shrink;
 pub mod subject;
 pub mod tally;

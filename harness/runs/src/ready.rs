@@ -1,14 +1,13 @@
 //! A net with everything worked out, ready to be measured.
 
 use crate::lists::{Call, Lists};
-use crate::real;
 use crate::subject::{Library, Plain, Subject};
 use crate::CLOSED;
 use naive::roads::Roads;
 use naive::walks::{Dijkstra, Leaving};
 use nets::county::{county, USUAL};
 use nets::source::Source;
-use nets::{order, Net};
+use nets::{order, stored, Net};
 use std::hint::black_box;
 use std::path::Path;
 
@@ -62,7 +61,7 @@ impl Ready {
             let order = order::dissection(&net.east, &net.north, &net.tails, &net.heads);
             return Ready::of(&net, order);
         }
-        let (net, order) = real::read(folder, name)?;
+        let (net, order) = stored::read(folder, name)?;
         Ready::of(&net, order)
     }
 

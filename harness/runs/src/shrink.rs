@@ -1,8 +1,8 @@
 //! Makes a failing case small: leaves out whatever the failure doesn't need.
 
-use crate::case::Case;
 use crate::lists::Lists;
 use crate::CLOSED;
+use cases::Case;
 use nets::order;
 use std::time::{Duration, Instant};
 

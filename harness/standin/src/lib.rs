@@ -1,6 +1,8 @@
 //! The four C functions of include/griezmuld.h over the crate `plain`. It stands in for the library where that is asked
 //! for by name: to try the runs themselves, and, by the feature `wrong`, to see that they find faults.
 
+#![allow(unsafe_code)]
+
 mod sound;
 mod wrong;
 

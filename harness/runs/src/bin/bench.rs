@@ -1,9 +1,9 @@
 //! The benchmark: the library beside plain safe Rust and Dijkstra, on the stored nets and on counties of growing size.
 
+use nets::stored;
 use runs::lists::Call;
 use runs::measure::{self, at, name, PerJob};
 use runs::ready::{Ready, Who, PAIRS};
-use runs::real;
 use std::fmt::Write;
 use std::path::PathBuf;
 use std::process::exit;
@@ -57,7 +57,7 @@ fn main() {
 
 fn options() -> Result<Option<Options>, String> {
     let mut options = Options {
-        nets: real::folder(),
+        nets: stored::folder(),
         write: None,
         times_only: false,
         quick: false,
@@ -85,7 +85,7 @@ fn options() -> Result<Option<Options>, String> {
 }
 
 fn bench(options: &Options) -> Result<(), String> {
-    let (mut nets, mut counties) = (real::NAMES.to_vec(), GROWTH.to_vec());
+    let (mut nets, mut counties) = (stored::NAMES.to_vec(), GROWTH.to_vec());
     if options.quick {
         nets = vec!["liechtenstein"];
         counties = vec!["county 256"];

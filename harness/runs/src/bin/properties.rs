@@ -1,12 +1,12 @@
 //! The property runs: examples, limits, stored nets, thousands of random nets, garbage lists. Every call of the library
 //! and of plain Rust is held to the naive programs, and those to Dijkstra and Floyd-Warshall.
 
+use cases::Case;
 use nets::source::Source;
-use nets::{order, Net};
-use runs::case::{self, Case};
+use nets::{order, stored, Net};
 use runs::garbage::{self, Handed};
 use runs::tally::Tally;
-use runs::{bounds, examples, judge, real, shrink};
+use runs::{bounds, examples, judge, shrink};
 use std::panic::{catch_unwind, AssertUnwindSafe};
 use std::path::PathBuf;
 use std::process::exit;
@@ -22,6 +22,7 @@ properties: holds the library's calls to the rules on many nets and lists
   --only NAME     only the cases of that name, as `small`, `small 17`, `garbage`, `stored nets`
   --nets FOLDER   where the stored nets are
   --trace         tell each case before it is run
+  --need-library  fail if the stand-in is linked
   --faults        print the faults that can be planted in the stand-in, and stop
 
 A round is one small net and twenty sets of garbage lists; now and then there is a larger net.
@@ -78,7 +79,7 @@ fn options() -> Result<Options, String> {
         seed: now.as_micros() as u64 % 1_000_000_000,
         seconds: None,
         only: None,
-        nets: real::folder(),
+        nets: stored::folder(),
         trace: false,
     };
     let mut words = std::env::args().skip(1);
@@ -91,6 +92,8 @@ fn options() -> Result<Options, String> {
             "--only" => options.only = Some(value()?),
             "--nets" => options.nets = value()?.into(),
             "--trace" => options.trace = true,
+            "--need-library" if calls::LIBRARY => {}
+            "--need-library" => return Err("the stand-in is linked".to_string()),
             "--faults" => {
                 for (number, fault) in (1..).zip(calls::faults()) {
                     println!("{number} {fault}");
@@ -143,7 +146,7 @@ impl Run {
                 limit(&mut tally).map(|()| tally)
             });
         }
-        for name in real::NAMES {
+        for name in stored::NAMES {
             self.stored_net(name);
         }
         self.rounds();
@@ -183,7 +186,7 @@ impl Run {
         if !self.wanted(&told) {
             return;
         }
-        let (net, dissected) = match real::read(&self.options.nets, name) {
+        let (net, dissected) = match stored::read(&self.options.nets, name) {
             Ok(read) => read,
             Err(error) => return self.fail(&told, &error, ""),
         };
@@ -200,7 +203,7 @@ impl Run {
     }
 
     fn net(&mut self, name: &str, net: &Net, order: Vec<u32>, source: &mut Source) {
-        let case = real::case(net, order, source);
+        let case = cases::closures(net, order, source);
         self.case(name, &case);
     }
 
@@ -248,7 +251,7 @@ impl Run {
         while round < most && Instant::now() < end && self.failed == 0 {
             let name = format!("small {round}");
             if self.wanted(&name) {
-                let case = case::small(&mut Source::nth(seed, round * 3));
+                let case = cases::small(&mut Source::nth(seed, round * 3));
                 self.case(&name, &case);
             }
             let name = format!("garbage {round}");
@@ -264,7 +267,7 @@ impl Run {
             let name = format!("large {round}");
             if round % LARGE_EVERY == LARGE_EVERY - 1 && self.wanted(&name) {
                 let n = LARGE[(round / LARGE_EVERY) as usize % LARGE.len()];
-                let case = case::large(n, &mut Source::nth(seed, round * 3 + 2));
+                let case = cases::large(n, &mut Source::nth(seed, round * 3 + 2));
                 self.case(&name, &case);
             }
             round += 1;

@@ -1,12 +1,11 @@
 //! A case: a net with an order, and all that is to be tried on it.
 
-use crate::CLOSED;
 use naive::customised::customised;
 use naive::graph::Graph;
 use naive::roads::Roads;
 use nets::county::{self, Character};
 use nets::source::Source;
-use nets::{order, Net};
+use nets::{order, Net, CLOSED};
 use std::fmt;
 
 /// One entry of the up or the down list, set to something else after customising.
@@ -389,4 +388,16 @@ fn damage_triangle(case: &mut Case, graph: &Graph, source: &mut Source) {
             cost,
         });
     }
+}
+
+/// A net as it is, and again after some closures with nothing redone.
+pub fn closures(net: &Net, order: Vec<u32>, source: &mut Source) -> Case {
+    let mut case = Case::on(net, order);
+    case.seed = source.any();
+    for cost in &mut case.later {
+        if source.percent(2) {
+            *cost = CLOSED;
+        }
+    }
+    case
 }
