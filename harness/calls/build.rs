@@ -20,14 +20,20 @@ fn main() {
     });
     println!("cargo:rerun-if-changed={}", archive.display());
     let out = PathBuf::from(env::var_os("OUT_DIR").expect("cargo names the folder"));
-    if let Err(error) = fs::copy(&archive, out.join("libtablet.a")) {
-        eprintln!(
-            "The library's archive {} can't be read: {error}.",
-            archive.display()
-        );
-        eprintln!("Make it with `rt staticlib tablet`, or name one in GRIEZMULD_ARCHIVE.");
-        eprintln!("To try the runs without the library, say `--features standin`.");
-        exit(1);
+    match fs::copy(&archive, out.join("libtablet.a")) {
+        Ok(bytes) => {
+            let name = archive.file_name().unwrap_or_default().to_string_lossy();
+            println!("cargo:rustc-env=GRIEZMULD_LINKED=the library ({name}, {bytes} bytes)");
+        }
+        Err(error) => {
+            eprintln!(
+                "The library's archive {} can't be read: {error}.",
+                archive.display()
+            );
+            eprintln!("Make it with `rt staticlib tablet`, or name one in GRIEZMULD_ARCHIVE.");
+            eprintln!("To try the runs without the library, say `--features standin`.");
+            exit(1);
+        }
     }
     println!("cargo:rustc-link-search=native={}", out.display());
     println!("cargo:rustc-link-lib=static=tablet");

@@ -27,7 +27,7 @@ pub fn linked() -> String {
         }
     };
     #[cfg(not(feature = "standin"))]
-    "the library's archive".to_string()
+    env!("GRIEZMULD_LINKED").to_string()
 }
 
 /// What each planted fault of the stand-in is, in words; nothing can be planted in the library.

@@ -14,11 +14,12 @@ const MOST: usize = 4_096;
 type Run = fn(&mut Tally) -> Result<(), String>;
 
 /// All of them, by name.
-pub const ALL: [(&str, Run); 6] = [
+pub const ALL: [(&str, Run); 7] = [
     ("too many junctions or arcs", past_the_limits),
     ("16,384 arcs", most_arcs),
     ("the dearest path", dearest_path),
     ("the deepest shortcut", deepest_shortcut),
+    ("faults in the last places", last_faults),
     ("all junctions joined", all_joined),
     ("a route of a thousand million arcs", endless_route),
 ];
@@ -127,6 +128,53 @@ fn ends_of_path(case: &Case, tally: &mut Tally) -> Result<(), String> {
         2_047_500_000 => Ok(()),
         other => Err(format!("the naive programs say {other}")),
     }
+}
+
+/// Good lists of the greatest size with one fault, as far back as it can stand.
+fn last_faults(tally: &mut Tally) -> Result<(), String> {
+    let last = MOST as u32 - 1;
+    let net = net_of(MOST, (0..last).map(|at| (at, at + 1, 500_000)));
+    let good = Lists {
+        rank: order::by_number(MOST),
+        first: (0..last).chain([last, last]).collect(),
+        row_heads: (1..=last).collect(),
+        up: vec![1; MOST - 1],
+        down: vec![1; MOST - 1],
+        route: stale(3),
+        order: order::by_number(MOST),
+        tails: net.tails,
+        heads: net.heads,
+        costs: net.costs,
+        from: 0,
+        to: 0,
+    };
+    type Spoil = fn(&mut Lists);
+    let faults: [(Call, u32, Spoil); 15] = [
+        (Call::Build, 3, |lists| lists.heads[MOST - 2] = MOST as u32),
+        (Call::Build, 4, |lists| lists.order[MOST - 1] = 0),
+        (Call::Build, 4, |lists| lists.order[MOST - 1] = MOST as u32),
+        (Call::Build, 5, |lists| lists.rank.push(0)),
+        (Call::Build, 5, |lists| lists.first.truncate(MOST)),
+        (Call::Customise, 2, |lists| lists.costs.truncate(MOST - 2)),
+        (Call::Customise, 7, |lists| lists.rank[MOST - 1] -= 1),
+        (Call::Customise, 7, |lists| lists.first[MOST] += 1),
+        (Call::Customise, 7, |lists| lists.first[MOST] = 0),
+        (Call::Customise, 8, |lists| lists.heads[MOST - 2] = 0),
+        (Call::Customise, 9, |lists| lists.costs[MOST - 2] = 500_001),
+        (Call::Customise, 10, |lists| lists.down.truncate(MOST - 2)),
+        (Call::Distance, 7, |lists| lists.row_heads[MOST - 2] += 1),
+        (Call::Distance, 11, |lists| lists.to = MOST as u32),
+        (Call::Route, 11, |lists| lists.from = CLOSED),
+    ];
+    for (call, number, spoil) in faults {
+        let mut lists = good.clone();
+        spoil(&mut lists);
+        let told = compare_all(call, &lists, tally)?.told;
+        if told.number != number {
+            return Err(format!("the naive programs say {told:?}, not {number}"));
+        }
+    }
+    Ok(())
 }
 
 /// A star of the most junctions with its centre first: every two are joined, 8,386,560 edges.
