@@ -23,6 +23,7 @@ properties: holds the library's calls to the rules on many nets and lists
   --nets FOLDER   where the stored nets are
   --trace         tell each case before it is run
   --need-library  fail if the stand-in is linked
+  --bare          no guard words round the lists, so that `valgrind properties --bare` sees reads outside, too
   --faults        print the faults that can be planted in the stand-in, and stop
 
 A round is one small net and twenty sets of garbage lists; now and then there is a larger net.
@@ -92,6 +93,7 @@ fn options() -> Result<Options, String> {
             "--only" => options.only = Some(value()?),
             "--nets" => options.nets = value()?.into(),
             "--trace" => options.trace = true,
+            "--bare" => runs::guarded::stand_bare(),
             "--need-library" if calls::LIBRARY => {}
             "--need-library" => return Err("the stand-in is linked".to_string()),
             "--faults" => {

@@ -22,7 +22,7 @@ pub const fn fault() -> u32 {
 }
 
 /// What each fault is, in words.
-pub const FAULTS: [&str; 45] = [
+pub const FAULTS: [&str; 46] = [
     "refuses all",
     "distance and route always say none",
     "distance and route always say 0",
@@ -68,6 +68,7 @@ pub const FAULTS: [&str; 45] = [
     "8 skips arcs that a later listing hides",
     "10 is told before 9",
     "a label of 0 above the start is none",
+    "the number of arcs is made up",
 ];
 
 /// 1: the refusal of everything.
@@ -310,6 +311,7 @@ pub fn route(l: RouteLists) -> Reply {
             reply.distance = u64::MAX;
             reply.arcs = 0;
         }
+        46 if reply.arcs > 0 => reply.arcs += 1,
         34 if accepted && reply.distance == u64::MAX => route.copy_from_slice(&old),
         _ => {}
     }
