@@ -79,10 +79,11 @@ module _ {N : Net} {rank first rowHeads up down : List ℕ} (A : Accepted N rank
         third = linked-third (A .rows-of);
       }
 
-  -- no finite customised cost is over 4,095 times the greatest: "Customised costs that aren't CLOSED are at most 2,047,500,000"
+  -- the customised costs
   abbrev shortcut : ℕ → ℕ → ℕ
   shortcut = shortcutCost N first rowHeads
 
+  -- they are customised in the sense of the theory of ways
   pub shortcut-customised : Customised closed (roadBetween N) Joined shortcut
   unfolding shortcutCost
   shortcut-customised =
@@ -99,6 +100,7 @@ module _ {N : Net} {rank first rowHeads up down : List ℕ} (A : Accepted N rank
   unfolding shortcutCost
   shortcut-small a b = omega (arith, customised-direct (linked first rowHeads) (roadBetween N) a b, road-small a b)
 
+  -- "Customised costs that aren't CLOSED are at most 4,095 × 500,000 = 2,047,500,000"
   pub shortcut-bound : (a b : ℕ) → Joined a b → shortcut a b < closed → shortcut a b ≤ 2047500000
   shortcut-bound a b j h =
       let few = A .few in

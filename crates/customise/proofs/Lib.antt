@@ -1,0 +1,5 @@
+pub mod PlaceLaws
+pub mod TurnLaws
+pub mod TriangleLaws
+pub mod ArcLaws
+pub mod WholeLaws

@@ -1,0 +1,53 @@
+-- `lower_edge` meets its contract: the two costs are read before either is stored. Assumes nothing.
+use lib.ListN.{getD}
+use Rattle.customise.proofs.PlaceLaws.{set-least}
+use borrow.Author.Needs.{needs}
+use Rattle.customise.proofs.lower_edge.Statement.{statement}
+use Rattle.customise.proofs.lower_edge.Tie as tie
+
+returns : tie.Need-returns
+returns c =
+    let l = c .before .before .least in
+    let s2 = c .before .before .before .before .sum2 in
+    let s1 = c .before .before .before .before .before .before .before .sum in
+    let p = c .before .before .before .before .before .before .before .before .before .before in
+    let k = p .edge-place .result in
+    let a = p .before .before .before .before .before .args in
+    let up = a .up .now in
+    let down = a .down .now in
+    record {
+      placed = p .edge-place .ensures;
+      up-is = set-least up k (getD down (a .i) 0) (getD up (a .j) 0) (s1 .result) (l .result) (s1 .ensures) (l .ensures);
+      down-is = set-least down k (getD down (a .j) 0) (getD up (a .i) 0) (s2 .result) (c .least2 .result) (s2 .ensures) (c .least2 .ensures);
+    }
+
+pub lower-edge-spec : {M : Type 1} → statement M
+lower-edge-spec =
+    tie.close
+    (tie.spec
+    (λ c. search needs)
+    (λ c. search needs)
+    (λ c κs. search needs)
+    (λ c. search needs)
+    (λ c. search needs)
+    (λ c. search needs)
+    (λ c. search needs)
+    (λ c κs. search needs)
+    (λ c. search needs)
+    (λ c. search needs)
+    (λ c. search needs)
+    (λ c. search needs)
+    (λ c κs. search needs)
+    (λ c. search needs)
+    (λ c. search needs)
+    (λ c κs. search needs)
+    (λ c. search needs)
+    (λ c. search needs)
+    (λ c. search needs)
+    (λ c. search needs)
+    (λ c κs. search needs)
+    (λ c. search needs)
+    (λ c. search needs)
+    (λ c. search needs)
+    (λ c. search needs)
+    returns)

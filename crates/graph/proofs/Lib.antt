@@ -1,0 +1,3 @@
+pub mod Written
+pub mod Grows
+pub mod Finished

@@ -1,0 +1,1 @@
+-- The face has no definitions of its own: its promises cite those of `rules`.

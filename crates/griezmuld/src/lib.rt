@@ -1,0 +1,110 @@
+// The four calls. Any lists may come in: each call checks what it gets, in the paper's order, and then does the work.
+// Each promise is one equation: what the call leaves, reply and every lent list, is the definition at what it got.
+
+ghost use mathlib.Core.Path.{_≡_};
+ghost use Rattle.rules.specs.Net.{net};
+ghost use Rattle.rules.specs.Replies.{buildReply, customiseReply, distanceReply};
+ghost use Rattle.rules.specs.Calls.{buildLeft, buildLeaves, customiseLeft, customiseLeaves, distanceLeft, distanceLeaves};
+use checks::check_customise;
+use checks::check_distance;
+use customise::customise_costs;
+use distance::ask;
+use graph::Room;
+use graph::clear;
+use graph::contract;
+use lists::Check;
+use lists::check_build;
+use lists::fill_rank;
+use lists::position_of;
+use rules::BuildAnswer;
+use rules::CustomiseAnswer;
+use rules::DistanceAnswer;
+use rules::Junction;
+use rules::Refusal;
+
+// Roads and order to the shortcut graph: rank, first and row_heads are filled, and E is told.
+pub fn build(
+    tails: &[u32],
+    heads: &[u32],
+    order: &[u32],
+    rank: &mut [u32],
+    first: &mut [u32],
+    row_heads: &mut [u32],
+) -> BuildAnswer
+    ensures { λ r. ⌜ buildLeft (now (rank .exit)) (now (first .exit)) (now («row_heads» .exit)) (buildReply r) ≡ buildLeaves (now (tails .entry)) (now (heads .entry)) (now (order .entry)) (now (rank .entry)) (now (first .entry)) (now («row_heads» .entry)) ⌝ }
+{
+    if let Check::Fails(refusal) = check_build(tails, heads, order, rank, first) {
+        return BuildAnswer::Refused(refusal);
+    }
+    fill_rank(order, rank);
+    let Room::Next(e) = contract(order, tails, heads, rank, first, row_heads) else {
+        clear(rank, 0);
+        return BuildAnswer::Refused(Refusal::HeadsRoom);
+    };
+    BuildAnswer::Edges(e)
+}
+
+// Costs to shortcut costs: up and down are filled, each to its own end.
+pub fn customise(
+    tails: &[u32],
+    heads: &[u32],
+    costs: &[u32],
+    order: &[u32],
+    rank: &[u32],
+    first: &[u32],
+    row_heads: &[u32],
+    up: &mut [u32],
+    down: &mut [u32],
+) -> CustomiseAnswer
+    ensures { λ r. ⌜ customiseLeft (now (up .exit)) (now (down .exit)) (customiseReply r) ≡ customiseLeaves (net (now (tails .entry)) (now (heads .entry)) (now (costs .entry)) (now (order .entry))) (now (rank .entry)) (now (first .entry)) (now («row_heads» .entry)) (now (up .entry)) (now (down .entry)) ⌝ }
+{
+    if let Check::Fails(refusal) = check_customise(
+        tails,
+        heads,
+        costs,
+        order,
+        rank,
+        first,
+        row_heads,
+        up,
+        down,
+    ) {
+        return CustomiseAnswer::Refused(refusal);
+    }
+    customise_costs(tails, heads, costs, order, rank, first, row_heads, up, down);
+    CustomiseAnswer::Done
+}
+
+// The distance between two junctions, by the lists as they are.
+pub fn distance<'a>(
+    order: &[u32],
+    rank: &[u32],
+    first: &[u32],
+    row_heads: &[u32],
+    up: &'a [u32],
+    down: &'a [u32],
+    from: Junction,
+    to: Junction,
+) -> DistanceAnswer
+    ensures { λ r. ⌜ distanceLeft (distanceReply r) ≡ distanceLeaves (now (order .entry)) (now (rank .entry)) (now (first .entry)) (now («row_heads» .entry)) (now (up .entry)) (now (down .entry)) (from .0) (to .0) ⌝ }
+{
+    if let Check::Fails(refusal) = check_distance(
+        order,
+        rank,
+        first,
+        row_heads,
+        up,
+        down,
+        from,
+        to,
+    ) {
+        return DistanceAnswer::Refused(refusal);
+    }
+    let s = position_of(rank, from);
+    let t = position_of(rank, to);
+    let d = ask(first, row_heads, up, down, s, t);
+    if d == 18446744073709551615 {
+        return DistanceAnswer::NoWalk;
+    }
+    DistanceAnswer::Tenths(d)
+}

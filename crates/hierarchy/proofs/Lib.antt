@@ -1,0 +1,3 @@
+pub mod SameRows
+pub mod RowLaws
+pub mod GraphLaws

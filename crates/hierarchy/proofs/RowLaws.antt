@@ -1,0 +1,236 @@
+-- What the code that tests ranks and rows leans on: the state of each loop, and a law for each way that it goes. Assumes nothing.
+use Prim.Native.Nat.{ℕ, suc, _+_, _-_, _≤_, _<_}
+use mathlib.Core.Path.{_≡_, refl, sym, ap, _∙_, subst}
+use mathlib.Core.Bool.{Bool, true, false, _&&_, and-true, and-false}
+use mathlib.Core.List.{List}
+use native.Mathlib.Omega.{arith}
+use native.Mathlib.Numerals.{add-one}
+use lib.Dec.{T, eqb, ltb, leb}
+use lib.ListN.{length, getD}
+use lib.Seq.{slice, slice-cons, slice-empty}
+use borrow.Author.Tests.{eq-eqb, ne-eqb, lt-ltb, le-ltb, le-leb, lt-leb, eqb-true, eqb-false, leb-true}
+use Rattle.rules.specs.Words.{each}
+use Rattle.rules.specs.Hierarchy.{rowAt}
+use Rattle.theory.proofs.Laws.{either, split, holds-true, true-holds, and-l}
+use Rattle.hierarchy.specs.Tests.{seatsAgree, rowsHold, inOrder, underParent, rowHolds, RowsFrom}
+use Rattle.hierarchy.proofs.SameRows.{SeatedAt, seats-e, seats-i, same-rows}
+
+-- ---- the order and the rank list
+
+-- the rank list gives back the positions below p
+pub record Seats (order rank : List ℕ) (p : ℕ) : Type 0 where
+  pub within : p ≤ length order
+  pub long : length rank ≡ length order
+  pub back : (q : ℕ) → q < p → SeatedAt order rank q
+
+-- none to begin with
+pub seats-start : (order rank : List ℕ) → length rank ≡ length order → Seats order rank 0
+seats-start order rank e = record { within = omega arith; long = e; back = λ q h. absurd (omega arith) }
+
+-- one position more
+pub seats-more : {order rank : List ℕ} {p : ℕ} → Seats order rank p → (j : ℕ) → p < length order → j ≡ getD order p 0 → j < length order → getD rank j 0 ≡ p
+    → Seats order rank (p + 1)
+seats-more {order} {rank} {p} s j h e l d =
+    record {
+      within = omega arith;
+      long = s .long;
+      back = λ q m.
+          either (split (eqb q p))
+          (λ f. subst (SeatedAt order rank) (sym (eqb-true q p f)) (omega arith, ap (λ i. getD rank i 0) (sym e) ∙ d))
+          (λ f. s .back q (omega (arith, eqb-false q p f)));
+    }
+
+-- all of them
+pub seats-all : {order rank : List ℕ} {p : ℕ} → Seats order rank p → length order ≤ p → true ≡ seatsAgree order rank
+seats-all {order} {rank} {p} s h =
+    sym (holds-true (seatsAgree order rank) (seats-i order rank (s .long) (λ q l. s .back q (omega arith))))
+
+-- a rank list of another length
+pub seats-length : (order rank : List ℕ) → (length rank ≡ length order → ⊥) → false ≡ seatsAgree order rank
+unfolding seatsAgree
+seats-length order rank n = rw (ne-eqb (length rank) (length order) n) refl
+
+-- a position that is not given back
+pub seats-fail : (order rank : List ℕ) (p j : ℕ) → p < length order → j ≡ getD order p 0 → (j < length order → getD rank j 0 ≡ p → ⊥) → false ≡ seatsAgree order rank
+seats-fail order rank p j h e n =
+    either (split (seatsAgree order rank))
+    (λ t.
+    let (low, back) = seats-e order rank (true-holds (seatsAgree order rank) t) p h in
+    absurd (n (omega arith) (ap (λ i. getD rank i 0) e ∙ back)))
+    (λ t. sym t)
+
+-- ---- one row in another
+
+-- what is left to find, and what of the other row is left to look at
+pub record Left (h : List ℕ) (k end j stop at want look : ℕ) : Type 0 where
+  pub some : at < end
+  pub within : look ≤ stop
+  pub wanted : want ≡ getD h at 0
+  pub same : inOrder (slice k end h) (slice j stop h) ≡ inOrder (slice at end h) (slice look stop h)
+
+-- nothing to find
+pub order-none : (h : List ℕ) (k end : ℕ) (ys : List ℕ) → k ≡ end → true ≡ inOrder (slice k end h) ys
+unfolding inOrder
+order-none h k end ys e = rw (e, slice-empty end h) refl
+
+-- all to find and all to look at
+pub left-start : (h : List ℕ) (k end j stop want : ℕ) → k ≤ end → (k ≡ end → ⊥) → j ≤ stop → want ≡ getD h k 0 → Left h k end j stop k want j
+left-start h k end j stop want l n m e = record { some = omega arith; within = m; wanted = e; same = refl }
+
+module _ {h : List ℕ} {k end j stop at want look : ℕ} (s : Left h k end j stop at want look) (fits : end ≤ length h) (stops : stop ≤ length h) where
+  -- all of the other row looked at, and not all found
+  pub left-over : stop ≤ look → false ≡ inOrder (slice k end h) (slice j stop h)
+  unfolding inOrder
+  left-over l =
+      let e : look ≡ stop = omega (arith, s .within) in
+      sym (s .same ∙ rw (slice-cons at end h 0 (s .some) fits, e, slice-empty stop h) refl)
+
+  -- the next entry of the other row is the wanted one
+  hit : look < stop → getD h look 0 ≡ want → inOrder (slice k end h) (slice j stop h) ≡ inOrder (slice (at + 1) end h) (slice (look + 1) stop h)
+  unfolding inOrder
+  hit l e =
+      s .same
+      ∙ rw (slice-cons at end h 0 (s .some) fits, slice-cons look stop h 0 l stops, eq-eqb (getD h look 0) (getD h at 0) (e ∙ s .wanted), add-one at, add-one look) refl
+
+  -- the last wanted one is found
+  pub left-end : look < stop → getD h look 0 ≡ want → at + 1 ≡ end → true ≡ inOrder (slice k end h) (slice j stop h)
+  left-end l e d = order-none h (at + 1) end (slice (look + 1) stop h) d ∙ sym (hit l e)
+
+  -- one is found, and there are more
+  pub left-hit : (next : ℕ) → look < stop → getD h look 0 ≡ want → (at + 1 ≡ end → ⊥) → next ≡ getD h (at + 1) 0 → Left h k end j stop (at + 1) next (look + 1)
+  left-hit next l e n d = record { some = omega (arith, s .some); within = omega arith; wanted = d; same = hit l e }
+
+  -- the next entry is not the wanted one
+  pub left-miss : look < stop → (getD h look 0 ≡ want → ⊥) → Left h k end j stop at want (look + 1)
+  unfolding inOrder
+  left-miss l n =
+      record {
+        some = s .some;
+        within = omega arith;
+        wanted = s .wanted;
+        same =
+            s .same
+            ∙ rw (slice-cons at end h 0 (s .some) fits, slice-cons look stop h 0 l stops, ne-eqb (getD h look 0) (getD h at 0) (λ e. n (e ∙ sym (s .wanted))), add-one look) refl;
+      }
+
+-- ---- one row
+
+module _ (n : ℕ) (f h : List ℕ) (p a b : ℕ) (low : a ≡ getD f p 0) (high : b ≡ getD f (p + 1) 0) where
+  -- the row's test by its ends
+  row-ends : rowHolds n f h p ≡ (leb a b && underParent n f h p (slice a b h))
+  unfolding rowHolds
+  row-ends = let g : b ≡ getD f (suc p) 0 = high ∙ ap (λ k. getD f k 0) (add-one p) in rw (low, g) refl
+
+  -- the row ends before it starts
+  pub row-falls : b < a → false ≡ rowHolds n f h p
+  row-falls l = sym (row-ends ∙ rw (lt-leb a b l) refl)
+
+  -- there is nothing in the row
+  pub row-empty : a ≡ b → true ≡ rowHolds n f h p
+  unfolding underParent
+  row-empty e = sym (row-ends ∙ rw (le-leb a b (omega arith), e, slice-empty b h) refl)
+
+  module _ (c : ℕ) (parent : c ≡ getD h a 0) (filled : a < b) (fits : b ≤ length h) where
+    -- the row's test by its parent
+    row-parent : rowHolds n f h p ≡ (ltb p c && ltb c n && inOrder (slice (a + 1) b h) (rowAt f h c))
+    unfolding underParent
+    row-parent = row-ends ∙ rw (le-leb a b (omega arith), slice-cons a b h 0 filled fits, add-one a, parent) refl
+
+    -- the parent is no higher than p
+    pub row-low : c ≤ p → false ≡ rowHolds n f h p
+    row-low l = sym (row-parent ∙ rw (le-ltb p c l) refl)
+
+    -- the parent is no position
+    pub row-high : p < c → n ≤ c → false ≡ rowHolds n f h p
+    row-high l m = sym (row-parent ∙ rw (lt-ltb p c l, le-ltb c n m) refl)
+
+    -- the rest of the row decides
+    pub row-rest : (from to : ℕ) (r : Bool) → p < c → c < n → from ≡ getD f c 0 → to ≡ getD f (c + 1) 0 → r ≡ inOrder (slice (a + 1) b h) (slice from to h)
+        → r ≡ rowHolds n f h p
+    row-rest from to r l m x y e =
+        let g : to ≡ getD f (suc c) 0 = y ∙ ap (λ k. getD f k 0) (add-one c) in
+        e ∙ sym (row-parent ∙ rw (lt-ltb p c l, lt-ltb c n m, x, g) refl)
+
+-- the parent's row lies within heads
+pub row-within : {n p : ℕ} {f h : List ℕ} → RowsFrom n f h (p + 1) → (c from to : ℕ) → p < c → c < n → from ≡ getD f c 0 → to ≡ getD f (c + 1) 0
+    → (from ≤ to) × (to ≤ length h)
+row-within {f} rows c from to l m x y =
+    let (u, v) = rows .rise c (omega arith) m in
+    let g : to ≡ getD f (suc c) 0 = y ∙ ap (λ k. getD f k 0) (add-one c) in
+    (omega arith, omega arith)
+
+-- ---- all rows, from the last down
+
+-- the rows from p on hold
+pub record Down (n : ℕ) (f h : List ℕ) (p : ℕ) : Type 0 where
+  pub within : p ≤ n
+  pub rows : RowsFrom n f h p
+  pub same : each (rowHolds n f h) n ≡ each (rowHolds n f h) p
+
+-- none to begin with
+pub down-start : (n : ℕ) (f h : List ℕ) → getD f n 0 ≤ length h → Down n f h n
+down-start n f h l =
+    record { within = omega arith; rows = record { fits = l; rise = λ q a b. absurd (omega arith) }; same = refl }
+
+-- what is known above the next row
+pub down-rows : {n p : ℕ} {f h : List ℕ} → Down n f h p → 0 < p → (q : ℕ) → q ≡ p - 1 → (q < n) × RowsFrom n f h (q + 1)
+down-rows {n} {p} {f} {h} d l q e =
+    let g : p ≡ q + 1 = omega arith in
+    (omega (arith, d .within), subst (λ k. RowsFrom n f h k) g (d .rows))
+
+-- all rows hold if the next one and those below it do
+down-same : {n p : ℕ} {f h : List ℕ} → Down n f h p → 0 < p → (q : ℕ) → q ≡ p - 1
+    → each (rowHolds n f h) n ≡ (each (rowHolds n f h) q && rowHolds n f h q)
+unfolding each
+down-same {n} {p} {f} {h} d l q e = let g : p ≡ suc q = omega arith in d .same ∙ rw g refl
+
+-- the next row does not hold
+pub down-fails : {n p : ℕ} {f h : List ℕ} → Down n f h p → 0 < p → (q : ℕ) (r : Bool) → q ≡ p - 1 → r ≡ rowHolds n f h q → r ≡ false
+    → false ≡ each (rowHolds n f h) n
+down-fails {n} {f} {h} d l q r e s t = sym (down-same d l q e ∙ rw (sym s ∙ t) (and-false (each (rowHolds n f h) q)))
+
+-- one row more holds
+pub down-more : {n p : ℕ} {f h : List ℕ} → Down n f h p → 0 < p → (q : ℕ) (r : Bool) → q ≡ p - 1 → r ≡ rowHolds n f h q → r ≡ true → Down n f h q
+unfolding rowHolds
+down-more {n} {p} {f} {h} d l q r e s t =
+    let g : p ≡ suc q = omega arith in
+    let u : T (rowHolds n f h q) = true-holds (rowHolds n f h q) (sym s ∙ t) in
+    let v : getD f q 0 ≤ getD f (suc q) 0 = leb-true (getD f q 0) (getD f (suc q) 0) (holds-true (leb (getD f q 0) (getD f (suc q) 0)) (search and-l)) in
+    let w : getD f (suc q) 0 ≤ length h = subst (λ k. getD f k 0 ≤ length h) g (d .rows .fits) in
+    record {
+      within = omega (arith, d .within);
+      rows = record {
+        fits = omega arith;
+        rise = λ i a b.
+            either (split (eqb i q))
+            (λ x. subst (λ k. (getD f k 0 ≤ getD f (suc k) 0) × (getD f (suc k) 0 ≤ length h)) (sym (eqb-true i q x)) (v, w))
+            (λ x. d .rows .rise i (omega (arith, eqb-false i q x)) b);
+      };
+      same = down-same d l q e ∙ rw (sym s ∙ t) (and-true (each (rowHolds n f h) q));
+    }
+
+-- all of them hold
+pub down-end : {n p : ℕ} {f h : List ℕ} → Down n f h p → p ≡ 0 → true ≡ each (rowHolds n f h) n
+unfolding each
+down-end {n} {f} {h} d e = sym (d .same ∙ rw e refl)
+
+-- ---- what the rows' test says, step by step
+
+module _ (n : ℕ) (f h : List ℕ) where
+  -- first is not n + 1 long
+  pub rows-length : (length f ≡ suc n → ⊥) → false ≡ rowsHold n f h
+  rows-length x = sym (same-rows n f h ∙ rw (ne-eqb (length f) (suc n) x) refl)
+
+  module _ (long : length f ≡ suc n) where
+    -- first does not start with 0
+    pub rows-start : (getD f 0 0 ≡ 0 → ⊥) → false ≡ rowsHold n f h
+    rows-start x = sym (same-rows n f h ∙ rw (eq-eqb (length f) (suc n) long, ne-eqb (getD f 0 0) 0 x) refl)
+
+    -- heads is shorter than E
+    pub rows-room : getD f 0 0 ≡ 0 → length h < getD f n 0 → false ≡ rowsHold n f h
+    rows-room z x = sym (same-rows n f h ∙ rw (eq-eqb (length f) (suc n) long, eq-eqb (getD f 0 0) 0 z, lt-leb (getD f n 0) (length h) x) refl)
+
+    -- the rows decide
+    pub rows-each : (r : Bool) → getD f 0 0 ≡ 0 → getD f n 0 ≤ length h → r ≡ each (rowHolds n f h) n → r ≡ rowsHold n f h
+    rows-each r z x e =
+        e ∙ sym (same-rows n f h ∙ rw (eq-eqb (length f) (suc n) long, eq-eqb (getD f 0 0) 0 z, le-leb (getD f n 0) (length h) x) refl)

@@ -1,0 +1,4 @@
+pub mod NextMembers
+pub mod Threads
+pub mod Arcs
+pub mod Gathered

@@ -1,0 +1,1 @@
+// The program: text in, answers out.

@@ -1,0 +1,58 @@
+-- Some checks of a call taken together as one: so a function that makes a few checks serves each call that makes them. Assumes nothing.
+use Prim.Native.Nat.{ℕ}
+use mathlib.Core.Path.{_≡_, refl, _∙_}
+use mathlib.Core.List.{List, [], _∷_, _++_}
+use lib.ListN.{length}
+use Rattle.rules.specs.Net.{Net, size}
+use Rattle.rules.specs.Hierarchy.{itsE}
+use Rattle.rules.specs.Refusals.{Verdict, passes, fails, firstFailure, check1, check2, check3, check4, check7, check8, check9, check10, check11}
+use Rattle.rules.specs.Calls.{customiseChecks, distanceChecks}
+
+-- what the last check says is what is left
+pub first-last : {w v : Verdict} → w ≡ v → w ≡ firstFailure (v ∷ [])
+first-last {v} e = e ∙ alone v
+  where
+    alone : (v : Verdict) → v ≡ firstFailure (v ∷ [])
+    alone passes = refl
+    alone (fails k p) = refl
+
+-- the first failure of checks is that of the first few taken together and the rest
+first-group : (vs ws : List Verdict) → firstFailure (vs ++ ws) ≡ firstFailure (firstFailure vs ∷ ws)
+first-group [] ws = refl
+first-group (passes ∷ vs) ws = first-group vs ws
+first-group (fails k p ∷ vs) ws = refl
+
+-- the same after a check
+first-after : (v : Verdict) (vs ws : List Verdict) → firstFailure vs ≡ firstFailure ws → firstFailure (v ∷ vs) ≡ firstFailure (v ∷ ws)
+first-after passes vs ws e = e
+first-after (fails k p) vs ws e = refl
+
+-- customise's checks: those of the arcs, those of the graph, and the rest
+pub customise-groups : (N : Net) (rank first rowHeads up down : List ℕ) → customiseChecks N rank first rowHeads up down
+    ≡ firstFailure
+    (firstFailure (check1 (size N) ∷ check2 (length (N .tails)) (length (N .heads) ∷ length (N .costs) ∷ []) ∷ check3 (size N) (N .tails) (N .heads) ∷ [])
+    ∷ firstFailure (check4 (N .order) ∷ check7 (N .order) rank first rowHeads ∷ [])
+    ∷ check8 (N .tails) (N .heads) rank first rowHeads
+    ∷ check9 (N .costs)
+    ∷ check10 (itsE (N .order) first) up down
+    ∷ [])
+unfolding customiseChecks
+customise-groups N rank first rowHeads up down =
+    let roads = check1 (size N) ∷ check2 (length (N .tails)) (length (N .heads) ∷ length (N .costs) ∷ []) ∷ check3 (size N) (N .tails) (N .heads) ∷ [] in
+    let graph = check4 (N .order) ∷ check7 (N .order) rank first rowHeads ∷ [] in
+    let rest = check8 (N .tails) (N .heads) rank first rowHeads ∷ check9 (N .costs) ∷ check10 (itsE (N .order) first) up down ∷ [] in
+    first-group roads (graph ++ rest) ∙ first-after (firstFailure roads) (graph ++ rest) (firstFailure graph ∷ rest) (first-group graph rest)
+
+-- distance's checks: those of the graph are the same
+pub distance-groups : (order rank first rowHeads up down : List ℕ) (from to : ℕ) → distanceChecks order rank first rowHeads up down from to
+    ≡ firstFailure
+    (check1 (length order)
+    ∷ firstFailure (check4 order ∷ check7 order rank first rowHeads ∷ [])
+    ∷ check10 (itsE order first) up down
+    ∷ check11 (length order) from to
+    ∷ [])
+unfolding distanceChecks
+distance-groups order rank first rowHeads up down from to =
+    let graph = check4 order ∷ check7 order rank first rowHeads ∷ [] in
+    let rest = check10 (itsE order first) up down ∷ check11 (length order) from to ∷ [] in
+    first-after (check1 (length order)) (graph ++ rest) (firstFailure graph ∷ rest) (first-group graph rest)

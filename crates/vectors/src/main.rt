@@ -1,0 +1,291 @@
+// Document 01's small examples, run: what each call tells and what then stands in the lent lists, to be compared with the paper.
+
+use griezmuld::build;
+use griezmuld::customise;
+use griezmuld::distance;
+use libc::STDOUT_FILENO;
+use rules::BuildAnswer;
+use rules::CustomiseAnswer;
+use rules::DistanceAnswer;
+use rules::Junction;
+
+// A number of a list as a 64-bit one.
+fn long(x: u32) -> u64 {
+    x as u64
+}
+
+// A word, then the numbers of a list, each after a space.
+fn show(word: &[u8], list: &[u32]) {
+    io::write_all(STDOUT_FILENO, word);
+    let mut i = 0;
+    while i < list.len() {
+        io::write_all(STDOUT_FILENO, b" ");
+        io::print_decimal(STDOUT_FILENO, long(list[i]));
+        i += 1;
+    }
+}
+
+// A word, then a number after a space.
+fn tell(word: &[u8], number: u64) {
+    io::write_all(STDOUT_FILENO, word);
+    io::write_all(STDOUT_FILENO, b" ");
+    io::print_decimal(STDOUT_FILENO, number);
+}
+
+// One line for a build: its name, the answer, the lists.
+fn show_build(name: &[u8], answer: BuildAnswer, rank: &[u32], first: &[u32], heads: &[u32]) {
+    tell(name, answer.number() as u64);
+    tell(b" at", answer.place() as u64);
+    tell(b", edges", answer.edges() as u64);
+    show(b", rank", rank);
+    show(b", first", first);
+    show(b", heads", heads);
+    io::write_all(STDOUT_FILENO, b"\n");
+}
+
+// One line for a customising: its name, the answer, the lists.
+fn show_customise(name: &[u8], answer: CustomiseAnswer, up: &[u32], down: &[u32]) {
+    tell(name, answer.number() as u64);
+    tell(b" at", answer.place() as u64);
+    show(b", up", up);
+    show(b", down", down);
+    io::write_all(STDOUT_FILENO, b"\n");
+}
+
+// One line for a distance: its name and the answer.
+fn show_distance(name: &[u8], answer: DistanceAnswer) {
+    tell(name, answer.number() as u64);
+    tell(b" at", answer.place() as u64);
+    tell(b", distance", answer.distance());
+    io::write_all(STDOUT_FILENO, b"\n");
+}
+
+// Builds, and shows what is left.
+fn try_build(
+    name: &[u8],
+    tails: &[u32],
+    ends: &[u32],
+    order: &[u32],
+    rank: &mut [u32],
+    first: &mut [u32],
+    heads: &mut [u32],
+) {
+    let answer = build(tails, ends, order, rank, first, heads);
+    show_build(name, answer, rank, first, heads);
+}
+
+// "n = 1, no arcs: first 0 0, E = 0, accepted. n = 0: 1. n = 4,097: 1."
+fn sizes() {
+    let none = [0u32; 0];
+    let one = [0u32; 1];
+    let many = [0u32; 4097];
+    try_build(
+        b"n = 1:",
+        &none,
+        &none,
+        &one,
+        &mut [9; 1],
+        &mut [9; 2],
+        &mut [9; 1],
+    );
+    try_build(
+        b"n = 0:",
+        &none,
+        &none,
+        &none,
+        &mut [9; 1],
+        &mut [9; 2],
+        &mut [9; 1],
+    );
+    try_build(
+        b"n = 4097:",
+        &none,
+        &none,
+        &many,
+        &mut [9; 1],
+        &mut [9; 2],
+        &mut [9; 1],
+    );
+}
+
+// N4 built into rooms for six, five and four heads: "Heads room 4 for N4: 6".
+fn n4_build() {
+    let tails = [1u32, 0, 2, 3, 1];
+    let ends = [0u32, 2, 3, 1, 3];
+    let order = [0u32, 1, 2, 3];
+    try_build(
+        b"N4, room 6:",
+        &tails,
+        &ends,
+        &order,
+        &mut [9; 4],
+        &mut [9; 5],
+        &mut [9; 6],
+    );
+    try_build(
+        b"N4, room 5:",
+        &tails,
+        &ends,
+        &order,
+        &mut [9; 4],
+        &mut [9; 5],
+        &mut [9; 5],
+    );
+    try_build(
+        b"N4, room 4:",
+        &tails,
+        &ends,
+        &order,
+        &mut [9; 4],
+        &mut [9; 5],
+        &mut [9; 4],
+    );
+}
+
+// P10's star, its centre first and last: E is 6, then 3.
+fn star() {
+    let tails = [0u32; 3];
+    let ends = [1u32, 2, 3];
+    try_build(
+        b"star, 0 first:",
+        &tails,
+        &ends,
+        &[0, 1, 2, 3],
+        &mut [9; 4],
+        &mut [9; 5],
+        &mut [9; 6],
+    );
+    try_build(
+        b"star, 0 last:",
+        &tails,
+        &ends,
+        &[1, 2, 3, 0],
+        &mut [9; 4],
+        &mut [9; 5],
+        &mut [9; 6],
+    );
+}
+
+// Bad arcs and orders: 2, 3 with its arc, 4 with its position, 5.
+fn bad_lists() {
+    let order = [1u32, 0, 1];
+    try_build(
+        b"uneven arcs:",
+        &[0],
+        &[1, 3],
+        &order,
+        &mut [9; 3],
+        &mut [9; 4],
+        &mut [9; 3],
+    );
+    try_build(
+        b"arc 1 past n:",
+        &[0, 1],
+        &[1, 3],
+        &order,
+        &mut [9; 3],
+        &mut [9; 4],
+        &mut [9; 3],
+    );
+    try_build(
+        b"junction 1 twice:",
+        &[0],
+        &[1],
+        &order,
+        &mut [9; 3],
+        &mut [9; 4],
+        &mut [9; 3],
+    );
+    try_build(
+        b"rank room 3 of 2:",
+        &[0],
+        &[1],
+        &[1, 0],
+        &mut [9; 3],
+        &mut [9; 3],
+        &mut [9; 3],
+    );
+}
+
+// Customises one arc, 0 to 1, of a cost, and shows what is left.
+fn try_cost(name: &[u8], cost: &[u32], up: &mut [u32], down: &mut [u32]) {
+    let answer = customise(
+        &[0],
+        &[1],
+        cost,
+        &[0, 1],
+        &[0, 1],
+        &[0, 1, 1],
+        &[1],
+        up,
+        down,
+    );
+    show_customise(name, answer, up, down);
+}
+
+// "Cost 500,000 accepted, 500,001: 9, 0: 9", and CLOSED accepted.
+fn costs() {
+    try_cost(b"cost 500001:", &[500001], &mut [9; 2], &mut [9; 1]);
+    try_cost(b"cost 0:", &[0], &mut [9; 2], &mut [9; 1]);
+    try_cost(b"cost 500000:", &[500000], &mut [9; 2], &mut [9; 1]);
+    try_cost(b"cost CLOSED:", &[4294967295], &mut [9; 2], &mut [9; 1]);
+}
+
+// N4 customised: P2, and CLOSED past E.
+fn n4_costs(up: &mut [u32], down: &mut [u32]) {
+    let order = [0u32, 1, 2, 3];
+    let costs = [3u32, 4, 2, 6, 20];
+    let answer = customise(
+        &[1, 0, 2, 3, 1],
+        &[0, 2, 3, 1, 3],
+        &costs,
+        &order,
+        &order,
+        &[0, 2, 4, 5, 5],
+        &[1, 2, 2, 3, 3],
+        up,
+        down,
+    );
+    show_customise(b"N4:", answer, up, down);
+}
+
+// Asks N4, by P2's lists.
+fn ask_n4(name: &[u8], from: u32, to: u32) {
+    let order = [0u32, 1, 2, 3];
+    let first = [0u32, 2, 4, 5, 5];
+    let heads = [1u32, 2, 2, 3, 3];
+    let up = [4294967295u32, 4, 7, 20, 2];
+    let down = [3u32, 4294967295, 4294967295, 6, 13];
+    show_distance(
+        name,
+        distance(
+            &order,
+            &order,
+            &first,
+            &heads,
+            &up,
+            &down,
+            Junction(from),
+            Junction(to),
+        ),
+    );
+}
+
+// P3 to P6, and an end past n.
+fn n4_distances() {
+    ask_n4(b"1 to 3:", 1, 3);
+    ask_n4(b"0 to 1:", 0, 1);
+    ask_n4(b"2 to 0:", 2, 0);
+    ask_n4(b"0 to 0:", 0, 0);
+    ask_n4(b"0 to 4:", 0, 4);
+}
+
+fn main() {
+    sizes();
+    n4_build();
+    star();
+    bad_lists();
+    costs();
+    n4_costs(&mut [9; 6], &mut [9; 5]);
+    n4_distances();
+}
