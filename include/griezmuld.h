@@ -58,7 +58,7 @@
  *   order, rank           n
  *   first                 n + 1
  *   row_heads, up, down   at least E. E isn't known before build has run: it is at most n * (n - 1) / 2, and on a road map
- *                         with a good order some 3 to 8 times n. If row_heads was too short (6), lend a longer one.
+ *                         with a good order some 3 to 15 times n. If row_heads was too short (6), lend a longer one.
  *   route                 at least the number of arcs of the route: n - 1 is enough where up and down were customised
  *                         for the costs at hand.
  *

@@ -9,7 +9,7 @@ pub mod told;
 
 pub use answers::{Built, Customised, Distance, Refusal, Route};
 
-#[cfg(feature = "standin")]
+#[cfg(any(feature = "standin", feature = "standin-route"))]
 use standin as _;
 
 /// "CLOSED": the cost of a closed arc or edge, and what fills a route list.
@@ -26,7 +26,9 @@ pub fn linked() -> String {
             format!("the stand-in with planted fault {fault} ({name})")
         }
     };
-    #[cfg(not(feature = "standin"))]
+    #[cfg(feature = "standin-route")]
+    return format!("{}, but the stand-in for route", env!("GRIEZMULD_LINKED"));
+    #[cfg(not(any(feature = "standin", feature = "standin-route")))]
     env!("GRIEZMULD_LINKED").to_string()
 }
 
@@ -38,8 +40,11 @@ pub fn faults() -> &'static [&'static str] {
     &[]
 }
 
-/// Whether the library itself was linked.
-pub const LIBRARY: bool = cfg!(not(feature = "standin"));
+/// Whether the library's archive was linked, for route or without it.
+pub const ARCHIVE: bool = cfg!(not(feature = "standin"));
+
+/// Whether the library itself was linked, and for all four calls.
+pub const LIBRARY: bool = cfg!(not(any(feature = "standin", feature = "standin-route")));
 
 /// Builds the shortcut graph into `rank` (n long), `first` (n + 1 long) and `row_heads`.
 pub fn build(

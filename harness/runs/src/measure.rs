@@ -11,13 +11,19 @@ use std::time::{Duration, Instant};
 /// A number for each of the jobs.
 pub type PerJob<T> = [T; JOBS.len()];
 
-/// The median time of each job in microseconds. The jobs take turns, so that what disturbs one disturbs all.
+/// The median time of each job in microseconds. The jobs take turns, forward and backward, so that what disturbs one
+/// disturbs all; each is run once before its time is taken, so that none pays for what the one before it left.
 pub fn times(ready: &mut Ready, samples: usize) -> PerJob<f64> {
     let batches = JOBS.map(|job| batch(ready, job));
     let mut taken: PerJob<Vec<f64>> = JOBS.map(|_| Vec::new());
-    for _ in 0..samples {
-        for (at, job) in JOBS.into_iter().enumerate() {
-            let time = time_of(ready, job, batches[at]);
+    for sample in 0..samples {
+        for turn in 0..JOBS.len() {
+            let at = match sample % 2 {
+                0 => turn,
+                _ => JOBS.len() - 1 - turn,
+            };
+            time_of(ready, JOBS[at], Ready::calls(JOBS[at].0));
+            let time = time_of(ready, JOBS[at], batches[at]);
             taken[at].push(time.as_secs_f64() * 1e6 / batches[at] as f64);
         }
     }

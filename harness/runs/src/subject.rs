@@ -74,7 +74,7 @@ pub struct Library;
 
 impl Subject for Library {
     fn name(&self) -> &'static str {
-        if calls::LIBRARY {
+        if calls::ARCHIVE {
             "library"
         } else {
             "stand-in"

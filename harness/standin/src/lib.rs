@@ -24,7 +24,7 @@ struct Reply {
 ///
 /// # Safety
 /// Every pointer points to as many numbers as its length says, and what is written overlaps nothing.
-#[no_mangle]
+#[cfg_attr(not(feature = "route-only"), no_mangle)]
 #[allow(clippy::too_many_arguments)]
 pub unsafe extern "C" fn griezmuld_build(
     tails: *const u32,
@@ -64,7 +64,7 @@ pub unsafe extern "C" fn griezmuld_build(
 ///
 /// # Safety
 /// Every pointer points to as many numbers as its length says, and what is written overlaps nothing.
-#[no_mangle]
+#[cfg_attr(not(feature = "route-only"), no_mangle)]
 #[allow(clippy::too_many_arguments)]
 pub unsafe extern "C" fn griezmuld_customise(
     tails: *const u32,
@@ -111,7 +111,7 @@ pub unsafe extern "C" fn griezmuld_customise(
 ///
 /// # Safety
 /// Every pointer points to as many numbers as its length says, and what is written overlaps nothing.
-#[no_mangle]
+#[cfg_attr(not(feature = "route-only"), no_mangle)]
 #[allow(clippy::too_many_arguments)]
 pub unsafe extern "C" fn griezmuld_distance(
     order: *const u32,
