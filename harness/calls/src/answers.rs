@@ -1,0 +1,148 @@
+//! The calls' answers as enums.
+
+use crate::told::{BuildTold, CustomiseTold, DistanceTold, RouteTold};
+
+/// Why a call refuses, with the place where that isn't always 0.
+#[derive(Clone, Copy, Debug, PartialEq, Eq)]
+pub enum Refusal {
+    /// 1: n is 0 or over 4,096.
+    JunctionCount,
+    /// 2: the arc lists differ in length or exceed 16,384.
+    ArcLists,
+    /// 3: an end of this arc is n or more.
+    ArcEnd(u64),
+    /// 4: the order's entry at this position is n or more, or was seen earlier.
+    OrderEntry(u64),
+    /// 5: the rank room isn't n long or the first room isn't n + 1.
+    RankOrFirstRoom,
+    /// 6: the heads room is shorter than E.
+    HeadsRoom,
+    /// 7: the lists aren't a hierarchy.
+    NotAHierarchy,
+    /// 8: this arc, with unequal ends, has no edge.
+    ArcWithoutEdge(u64),
+    /// 9: the cost of this arc is 0, or over 500,000 and not CLOSED.
+    ArcCost(u64),
+    /// 10: the up or the down list is shorter than E.
+    CostLists,
+    /// 11: the start or the target is n or more.
+    StartOrTarget,
+    /// 12: an arc of the route has no place left.
+    RouteRoom,
+    /// 13: a piece has neither a fitting arc nor a fitting z.
+    PieceFitsNothing,
+    /// A number that include/griezmuld.h doesn't have.
+    Unheard {
+        /// The number told.
+        number: u32,
+        /// The place told.
+        place: u64,
+    },
+}
+
+impl Refusal {
+    fn new(number: u32, place: u64) -> Refusal {
+        match number {
+            1 => Refusal::JunctionCount,
+            2 => Refusal::ArcLists,
+            3 => Refusal::ArcEnd(place),
+            4 => Refusal::OrderEntry(place),
+            5 => Refusal::RankOrFirstRoom,
+            6 => Refusal::HeadsRoom,
+            7 => Refusal::NotAHierarchy,
+            8 => Refusal::ArcWithoutEdge(place),
+            9 => Refusal::ArcCost(place),
+            10 => Refusal::CostLists,
+            11 => Refusal::StartOrTarget,
+            12 => Refusal::RouteRoom,
+            13 => Refusal::PieceFitsNothing,
+            _ => Refusal::Unheard { number, place },
+        }
+    }
+}
+
+/// What build answers.
+#[derive(Clone, Copy, Debug, PartialEq, Eq)]
+pub enum Built {
+    /// E.
+    Edges(u64),
+    /// Why not.
+    Refused(Refusal),
+}
+
+/// What customise answers.
+#[derive(Clone, Copy, Debug, PartialEq, Eq)]
+pub enum Customised {
+    /// The costs stand.
+    Done,
+    /// Why not.
+    Refused(Refusal),
+}
+
+/// What distance answers.
+#[derive(Clone, Copy, Debug, PartialEq, Eq)]
+pub enum Distance {
+    /// Tenths of a second.
+    Tenths(u64),
+    /// No walk leads there.
+    NoWalk,
+    /// Why not.
+    Refused(Refusal),
+}
+
+/// What route answers.
+#[derive(Clone, Copy, Debug, PartialEq, Eq)]
+pub enum Route {
+    /// The distance, and how many arcs the route list holds.
+    Drive {
+        /// Tenths of a second.
+        distance: u64,
+        /// The number of arcs.
+        arcs: u64,
+    },
+    /// No walk leads there.
+    NoWalk,
+    /// Why not.
+    Refused(Refusal),
+}
+
+impl From<BuildTold> for Built {
+    fn from(told: BuildTold) -> Built {
+        match told.number {
+            0 => Built::Edges(told.edges),
+            number => Built::Refused(Refusal::new(number, told.place)),
+        }
+    }
+}
+
+impl From<CustomiseTold> for Customised {
+    fn from(told: CustomiseTold) -> Customised {
+        match told.number {
+            0 => Customised::Done,
+            number => Customised::Refused(Refusal::new(number, told.place)),
+        }
+    }
+}
+
+impl From<DistanceTold> for Distance {
+    fn from(told: DistanceTold) -> Distance {
+        match (told.number, told.distance) {
+            (0, u64::MAX) => Distance::NoWalk,
+            (0, distance) => Distance::Tenths(distance),
+            (number, _) => Distance::Refused(Refusal::new(number, told.place)),
+        }
+    }
+}
+
+impl From<RouteTold> for Route {
+    fn from(told: RouteTold) -> Route {
+        match (told.number, told.distance) {
+            (0, u64::MAX) => Route::NoWalk,
+            (0, distance) => Route::Drive {
+                distance,
+                arcs: told.arcs,
+            },
+            (number, _) => Route::Refused(Refusal::new(number, told.place)),
+        }
+    }
+}

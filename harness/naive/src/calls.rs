@@ -1,0 +1,412 @@
+//! All that each call has to reply and to leave, for any lists.
+
+use crate::customised::customised;
+use crate::graph::Graph;
+use crate::labels::{labels, meeting, Held, Label, Meeting, Way};
+use crate::refusals::{self, refusal, Refusal};
+use crate::roads::Roads;
+use crate::unpacking::{met, pieces, Met};
+use crate::{CLOSED, NO_WALK};
+
+/// The numbers that a call tells. Those that it doesn't tell are 0.
+#[derive(Clone, Copy, Debug, Default, PartialEq, Eq)]
+pub struct Told {
+    /// The refusal's number, 0 when accepted.
+    pub number: u32,
+    /// The refusal's place, 0 when accepted.
+    pub place: u64,
+    /// E, by build.
+    pub edges: u64,
+    /// The distance, or the number for "none".
+    pub distance: u64,
+    /// The number of arcs of the route.
+    pub arcs: u64,
+}
+
+impl From<Refusal> for Told {
+    fn from(refusal: Refusal) -> Told {
+        Told {
+            number: refusal.number,
+            place: refusal.place,
+            ..Told::default()
+        }
+    }
+}
+
+/// What every call gets of the roads and the order.
+#[derive(Clone, Copy)]
+pub struct Roadmap<'a> {
+    /// The arcs' tails.
+    pub tails: &'a [u32],
+    /// The arcs' heads.
+    pub heads: &'a [u32],
+    /// The arcs' costs.
+    pub costs: &'a [u32],
+    /// The order.
+    pub order: &'a [u32],
+}
+
+/// What customise, distance and route get of the graph.
+#[derive(Clone, Copy)]
+pub struct Rows<'a> {
+    /// The rank list.
+    pub rank: &'a [u32],
+    /// Where each row starts.
+    pub first: &'a [u32],
+    /// The rows.
+    pub row_heads: &'a [u32],
+}
+
+// ---- build
+
+/// What build leaves.
+#[derive(Clone, Debug, PartialEq, Eq)]
+pub struct BuildLeaves {
+    /// The numbers told.
+    pub told: Told,
+    /// The rank list.
+    pub rank: Vec<u32>,
+    /// Where each row starts.
+    pub first: Vec<u32>,
+    /// The rows.
+    pub row_heads: Vec<u32>,
+}
+
+/// "Build: 1, 2, 3, 4, 5, 6; it gets no costs."
+pub fn build(
+    tails: &[u32],
+    heads: &[u32],
+    order: &[u32],
+    rank: &[u32],
+    first: &[u32],
+    row_heads: &[u32],
+) -> BuildLeaves {
+    let n = order.len();
+    let refused = refusal(1, refusals::junctions(n))
+        .or_else(|| refusal(2, refusals::arc_lists(&[tails.len(), heads.len()])))
+        .or_else(|| refusal(3, refusals::arc_ends(n, tails, heads)))
+        .or_else(|| refusal(4, refusals::order_entries(order)))
+        .or_else(|| refusal(5, refusals::rank_or_first_room(n, rank, first)));
+    if let Some(refused) = refused {
+        return BuildLeaves {
+            told: refused.into(),
+            rank: rank.to_vec(),
+            first: first.to_vec(),
+            row_heads: row_heads.to_vec(),
+        };
+    }
+    let graph = Graph::by_the_game(order, tails, heads);
+    // "after 6 rank, first and heads are all 0"
+    if let Some(refused) = refusal(6, refusals::heads_room(graph.edges(), row_heads)) {
+        return BuildLeaves {
+            told: refused.into(),
+            rank: vec![0; rank.len()],
+            first: vec![0; first.len()],
+            row_heads: vec![0; row_heads.len()],
+        };
+    }
+    // "The rank list is its inverse"; "Places of heads past E become 0. Build replies E."
+    let inverse = |junction| {
+        order
+            .iter()
+            .position(|&j| j == junction)
+            .expect("a permutation")
+    };
+    let mut rows = graph.heads();
+    rows.resize(row_heads.len(), 0);
+    BuildLeaves {
+        told: Told {
+            edges: graph.edges() as u64,
+            ..Told::default()
+        },
+        rank: (0..n as u32)
+            .map(|junction| inverse(junction) as u32)
+            .collect(),
+        first: graph.first(),
+        row_heads: rows,
+    }
+}
+
+// ---- customise
+
+/// What customise leaves.
+#[derive(Clone, Debug, PartialEq, Eq)]
+pub struct CustomiseLeaves {
+    /// The numbers told.
+    pub told: Told,
+    /// The up list.
+    pub up: Vec<u32>,
+    /// The down list.
+    pub down: Vec<u32>,
+}
+
+/// "Customise: 1, 2, 3, 4, 7, 8, 9, 10."
+pub fn customise(map: Roadmap, rows: Rows, up: &[u32], down: &[u32]) -> CustomiseLeaves {
+    if let Some(refused) = customise_refusal(map, rows, up, down) {
+        return CustomiseLeaves {
+            told: refused.into(),
+            up: up.to_vec(),
+            down: down.to_vec(),
+        };
+    }
+    let graph = Graph::of_lists(map.order.len(), rows.first, rows.row_heads);
+    let roads = Roads::of(map.tails, map.heads, map.costs);
+    let (mut up_costs, mut down_costs) = customised(&graph, map.order, &roads);
+    // "Places past E become CLOSED."
+    up_costs.resize(up.len(), CLOSED);
+    down_costs.resize(down.len(), CLOSED);
+    CustomiseLeaves {
+        told: Told::default(),
+        up: up_costs,
+        down: down_costs,
+    }
+}
+
+fn customise_refusal(map: Roadmap, rows: Rows, up: &[u32], down: &[u32]) -> Option<Refusal> {
+    let Roadmap {
+        tails,
+        heads,
+        costs,
+        order,
+    } = map;
+    let Rows {
+        rank,
+        first,
+        row_heads,
+    } = rows;
+    let n = order.len();
+    let lengths = [tails.len(), heads.len(), costs.len()];
+    refusal(1, refusals::junctions(n))
+        .or_else(|| refusal(2, refusals::arc_lists(&lengths)))
+        .or_else(|| refusal(3, refusals::arc_ends(n, tails, heads)))
+        .or_else(|| refusal(4, refusals::order_entries(order)))
+        .or_else(|| refusal(7, refusals::hierarchy(order, rank, first, row_heads)))
+        .or_else(|| {
+            let fault = refusals::arcs_without_edge(tails, heads, rank, first, row_heads);
+            refusal(8, fault)
+        })
+        .or_else(|| refusal(9, refusals::arc_costs(costs)))
+        .or_else(|| refusal(10, refusals::cost_lists(first[n] as usize, up, down)))
+}
+
+// ---- distance
+
+/// "Distance: 1, 4, 7, 10, 11."
+pub fn distance(order: &[u32], rows: Rows, up: &[u32], down: &[u32], from: u32, to: u32) -> Told {
+    let n = order.len();
+    let refused = refusal(1, refusals::junctions(n))
+        .or_else(|| refusal(4, refusals::order_entries(order)))
+        .or_else(|| {
+            let fault = refusals::hierarchy(order, rows.rank, rows.first, rows.row_heads);
+            refusal(7, fault)
+        })
+        .or_else(|| refusal(10, refusals::cost_lists(rows.first[n] as usize, up, down)))
+        .or_else(|| refusal(11, refusals::start_or_target(n, from, to)));
+    match refused {
+        Some(refused) => refused.into(),
+        None => Asked::of(order, rows, up, down).distance(from, to),
+    }
+}
+
+// ---- route
+
+/// What route leaves.
+#[derive(Clone, Debug, PartialEq, Eq)]
+pub struct RouteLeaves {
+    /// The numbers told.
+    pub told: Told,
+    /// The route list.
+    pub route: Vec<u32>,
+}
+
+/// "Route: 1, 2, 3, 4, 7, 8, 9, 10, 11, then 12 and 13".
+pub fn route(
+    map: Roadmap,
+    rows: Rows,
+    up: &[u32],
+    down: &[u32],
+    from: u32,
+    to: u32,
+    route: &[u32],
+) -> RouteLeaves {
+    let refused = customise_refusal(map, rows, up, down).or_else(|| {
+        let fault = refusals::start_or_target(map.order.len(), from, to);
+        refusal(11, fault)
+    });
+    if let Some(refused) = refused {
+        return RouteLeaves {
+            told: refused.into(),
+            route: route.to_vec(),
+        };
+    }
+    let roads = Roads::of(map.tails, map.heads, map.costs);
+    let mut asked = Asked::of(map.order, rows, up, down);
+    let drive = asked.drive(&roads, from, to, route.len());
+    drive.into_room(route.len())
+}
+
+/// Lists that have passed every check, ready for many questions. Labels are worked out once for each end.
+pub struct Asked<'a> {
+    order: &'a [u32],
+    rank: &'a [u32],
+    held: Held<'a>,
+    from_start: Vec<Option<Vec<Option<Label>>>>,
+    from_target: Vec<Option<Vec<Option<Label>>>>,
+}
+
+impl<'a> Asked<'a> {
+    /// The lists, which must have passed.
+    pub fn of(order: &'a [u32], rows: Rows<'a>, up: &'a [u32], down: &'a [u32]) -> Asked<'a> {
+        let n = order.len();
+        Asked {
+            order,
+            rank: rows.rank,
+            held: Held {
+                graph: Graph::of_lists(n, rows.first, rows.row_heads),
+                up,
+                down,
+            },
+            from_start: vec![None; n],
+            from_target: vec![None; n],
+        }
+    }
+
+    /// What distance tells.
+    pub fn distance(&mut self, from: u32, to: u32) -> Told {
+        Told {
+            distance: self.meet(from, to).map_or(NO_WALK, |meeting| meeting.sum),
+            ..Told::default()
+        }
+    }
+
+    /// What route meets between two junctions. Past `most` arcs it looks no further.
+    pub fn drive(&mut self, roads: &Roads, from: u32, to: u32, most: usize) -> Drive {
+        let Some(meeting) = self.meet(from, to) else {
+            return Drive::Nowhere;
+        };
+        let (s, t) = (self.position(from), self.position(to));
+        let from_start = self.from_start[s].as_ref().expect("worked out");
+        let from_target = self.from_target[t].as_ref().expect("worked out");
+        let pieces = pieces(from_start, from_target, meeting.position);
+        Drive::Along {
+            distance: meeting.sum,
+            met: met(&self.held, roads, self.order, &pieces, most),
+        }
+    }
+
+    /// "questions speak of junctions, the shortcut graph speaks of positions"
+    fn position(&self, junction: u32) -> usize {
+        self.rank[junction as usize] as usize
+    }
+
+    fn meet(&mut self, from: u32, to: u32) -> Option<Meeting> {
+        let (s, t) = (self.position(from), self.position(to));
+        let held = &self.held;
+        let from_start = self.from_start[s].get_or_insert_with(|| labels(held, s, Way::Up));
+        let from_target = self.from_target[t].get_or_insert_with(|| labels(held, t, Way::Down));
+        meeting(from_start, from_target)
+    }
+}
+
+/// What route meets between two junctions.
+#[derive(Clone, Debug, PartialEq, Eq)]
+pub enum Drive {
+    /// "none"
+    Nowhere,
+    /// A distance, and what is met on the way.
+    Along {
+        /// The distance.
+        distance: u64,
+        /// Arcs, and a misfit at the end if there is one.
+        met: Vec<Met>,
+    },
+}
+
+impl Drive {
+    /// How many arcs are met.
+    pub fn arcs(&self) -> usize {
+        match self {
+            Drive::Nowhere => 0,
+            Drive::Along { met, .. } => met.iter().filter(|&&met| met != Met::Misfit).count(),
+        }
+    }
+
+    /// What route leaves in a room of so many places. "the route list holds arc numbers in driving order, and
+    /// 4,294,967,295 in all other places"; "the first trouble met is the one given"; "after 12 or 13 every route place
+    /// is 4,294,967,295".
+    pub fn into_room(&self, room: usize) -> RouteLeaves {
+        let mut route = vec![CLOSED; room];
+        let Drive::Along { distance, met } = self else {
+            let told = Told {
+                distance: NO_WALK,
+                ..Told::default()
+            };
+            return RouteLeaves { told, route };
+        };
+        for (arcs, event) in met.iter().enumerate() {
+            let trouble = match event {
+                Met::Misfit => 13,
+                Met::Arc(_) if arcs == room => 12,
+                Met::Arc(arc) => {
+                    route[arcs] = *arc;
+                    continue;
+                }
+            };
+            let told = Told {
+                number: trouble,
+                ..Told::default()
+            };
+            return RouteLeaves {
+                told,
+                route: vec![CLOSED; room],
+            };
+        }
+        let told = Told {
+            distance: *distance,
+            arcs: met.len() as u64,
+            ..Told::default()
+        };
+        RouteLeaves { told, route }
+    }
+}
+
+#[cfg(test)]
+mod tests {
+    use super::*;
+
+    const TAILS: [u32; 5] = [1, 0, 2, 3, 1];
+    const HEADS: [u32; 5] = [0, 2, 3, 1, 3];
+    const COSTS: [u32; 5] = [3, 4, 2, 6, 20];
+    const ORDER: [u32; 4] = [0, 1, 2, 3];
+
+    #[test]
+    fn n4_is_as_the_paper_says() {
+        let built = build(&TAILS, &HEADS, &ORDER, &[7; 4], &[7; 5], &[7; 6]);
+        assert_eq!(built.told.edges, 5);
+        assert_eq!(built.first, [0, 2, 4, 5, 5]);
+        assert_eq!(built.row_heads, [1, 2, 2, 3, 3, 0]);
+        let map = Roadmap {
+            tails: &TAILS,
+            heads: &HEADS,
+            costs: &COSTS,
+            order: &ORDER,
+        };
+        let rows = Rows {
+            rank: &built.rank,
+            first: &built.first,
+            row_heads: &built.row_heads,
+        };
+        let costs = customise(map, rows, &[7; 5], &[7; 6]);
+        assert_eq!(costs.up, [CLOSED, 4, 7, 20, 2]);
+        assert_eq!(costs.down, [3, CLOSED, CLOSED, 6, 13, CLOSED]);
+        assert_eq!(
+            distance(&ORDER, rows, &costs.up, &costs.down, 0, 1).distance,
+            12
+        );
+        let drive = route(map, rows, &costs.up, &costs.down, 1, 3, &[7; 4]);
+        assert_eq!((drive.told.distance, drive.told.arcs), (9, 3));
+        assert_eq!(drive.route, [0, 1, 2, CLOSED]);
+        let short = route(map, rows, &costs.up, &costs.down, 1, 3, &[7; 2]);
+        assert_eq!((short.told.number, short.route), (12, vec![CLOSED; 2]));
+    }
+}

@@ -1,0 +1,21 @@
+//! The rules of document 01 taken word by word, slow and plain: what every call has to reply and to leave in each
+//! lent list, for any lists. Beside it, Dijkstra and Floyd-Warshall, which know nothing of shortcuts.
+//!
+//! This crate shares no code with the library or with the crate `plain`. It favours the paper's sentences over speed:
+//! matrices for what is joined, a recursion for costs, every lower position tried for every label.
+
+pub mod calls;
+pub mod customised;
+pub mod graph;
+pub mod hierarchy;
+pub mod labels;
+pub mod refusals;
+pub mod roads;
+pub mod unpacking;
+pub mod walks;
+
+/// "CLOSED = 4,294,967,295", and what fills a route list where no arc stands.
+pub const CLOSED: u32 = 4_294_967_295;
+
+/// The distance that stands for "none".
+pub const NO_WALK: u64 = 18_446_744_073_709_551_615;

@@ -1,0 +1,214 @@
+//! The benchmark: the library beside plain safe Rust and Dijkstra, on the stored nets and on counties of growing size.
+
+use nets::stored;
+use runs::lists::Call;
+use runs::measure::{self, at, name, PerJob};
+use runs::ready::{Ready, Who, PAIRS};
+use std::fmt::Write;
+use std::path::PathBuf;
+use std::process::exit;
+
+const USAGE: &str = "\
+bench: measures the four calls beside plain safe Rust and Dijkstra
+
+  --nets FOLDER   where the stored nets are
+  --write FILE    write the tables to a file, too; only if the library itself is linked
+  --times-only    no instruction counts
+  --quick         few samples, two nets";
+
+/// The synthetic counties.
+const GROWTH: [&str; 5] = [
+    "county 256",
+    "county 512",
+    "county 1024",
+    "county 2048",
+    "county 4096",
+];
+
+const CALLS: [Call; 4] = [Call::Build, Call::Customise, Call::Distance, Call::Route];
+
+struct Options {
+    nets: PathBuf,
+    write: Option<PathBuf>,
+    times_only: bool,
+    quick: bool,
+}
+
+/// What was measured on one net.
+struct Measured {
+    name: &'static str,
+    n: usize,
+    arcs: usize,
+    edges: usize,
+    times: PerJob<f64>,
+    counts: Option<PerJob<f64>>,
+}
+
+fn main() {
+    let result = options().and_then(|options| match options {
+        Some(options) => bench(&options),
+        None => Ok(()),
+    });
+    if let Err(error) = result {
+        eprintln!("{error}");
+        exit(1);
+    }
+}
+
+fn options() -> Result<Option<Options>, String> {
+    let mut options = Options {
+        nets: stored::folder(),
+        write: None,
+        times_only: false,
+        quick: false,
+    };
+    let mut words = std::env::args().skip(1);
+    while let Some(word) = words.next() {
+        let mut value = || words.next().ok_or(format!("{word} needs a value"));
+        match word.as_str() {
+            "--nets" => options.nets = value()?.into(),
+            "--write" => options.write = Some(value()?.into()),
+            "--times-only" => options.times_only = true,
+            "--quick" => options.quick = true,
+            "--under-callgrind" => {
+                let mut ready = Ready::named(&options.nets, &value()?)?;
+                measure::run_for_callgrind(&mut ready);
+                return Ok(None);
+            }
+            other => return Err(format!("{other} is unknown\n\n{USAGE}")),
+        }
+    }
+    if options.write.is_some() && !calls::LIBRARY {
+        return Err("nothing is written of the stand-in".to_string());
+    }
+    Ok(Some(options))
+}
+
+fn bench(options: &Options) -> Result<(), String> {
+    let (mut nets, mut counties) = (stored::NAMES.to_vec(), GROWTH.to_vec());
+    if options.quick {
+        nets = vec!["liechtenstein"];
+        counties = vec!["county 256"];
+    }
+    let measured = |names: Vec<&'static str>| -> Result<Vec<Measured>, String> {
+        names
+            .into_iter()
+            .map(|name| measure(options, name))
+            .collect()
+    };
+    let text = report(&measured(nets)?, &measured(counties)?);
+    println!("{text}");
+    if let Some(file) = &options.write {
+        std::fs::write(file, text).map_err(|error| format!("{}: {error}", file.display()))?;
+    }
+    Ok(())
+}
+
+fn measure(options: &Options, name: &'static str) -> Result<Measured, String> {
+    let mut ready = Ready::named(&options.nets, name)?;
+    if !ready.agrees() {
+        return Err(format!("on {name} the answers differ: run `properties`"));
+    }
+    let samples = if options.quick { 5 } else { 41 };
+    let counts = match options.times_only {
+        true => None,
+        false => measure::instructions(name, &options.nets)?,
+    };
+    Ok(Measured {
+        name,
+        n: ready.lists.order.len(),
+        arcs: ready.lists.tails.len(),
+        edges: ready.edges,
+        times: measure::times(&mut ready, samples),
+        counts,
+    })
+}
+
+fn report(nets: &[Measured], counties: &[Measured]) -> String {
+    let mut text = String::new();
+    let linked = calls::linked();
+    // writing to a string never fails
+    let _ = write!(
+        text,
+        "# Benchmarks\n\n\
+         Each call with all of its checks, beside the same calls in plain safe Rust (`harness/plain`) and Dijkstra with a binary heap\n\
+         (`harness/naive/src/walks.rs`), one after the other in one run, all compiled for release. Measured: {linked}.\n\n\
+         Times are medians in microseconds, the three taking turns; what else the machine does shows in them. Instructions are thousands per call,\n\
+         counted by callgrind; they hardly vary from run to run. Distance and route are means over {PAIRS} pairs of junctions chosen anyhow.\n\
+         Orders are made by dissection over coordinates. Lists are lent once and not cleared between calls. A ratio is the library's number by plain Rust's.\n\n\
+         Again: `cargo run --release --bin bench -- --write ../docs/BENCHMARKS.md` in `harness/`.\n\n"
+    );
+    for net in nets {
+        table(&mut text, net);
+    }
+    text.push_str("## Growth\n\nSynthetic counties, the library's calls and Dijkstra.\n\n");
+    text.push_str("| n | arcs | E | build | customise | distance | route | Dijkstra |\n");
+    text.push_str("|---:|---:|---:|---:|---:|---:|---:|---:|\n");
+    for county in counties {
+        growth(&mut text, county);
+    }
+    text.push_str("\nEach cell: microseconds, then thousands of instructions.\n");
+    text
+}
+
+fn table(text: &mut String, net: &Measured) {
+    let _ = write!(
+        text,
+        "## {}: {} junctions, {} arcs, E = {}\n\n\
+         | call | library µs | plain Rust µs | ratio | library instructions | plain Rust instructions | ratio |\n\
+         |---|---:|---:|---:|---:|---:|---:|\n",
+        net.name, net.n, net.arcs, net.edges
+    );
+    for call in CALLS {
+        let both = [Who::Library, Who::Plain].map(|who| at((call, who)));
+        let [library, plain] = both.map(|job| net.times[job]);
+        let _ = write!(
+            text,
+            "| {} | {library:.1} | {plain:.1} | {:.2} |",
+            name(call),
+            library / plain
+        );
+        match &net.counts {
+            Some(counts) => {
+                let [library, plain] = both.map(|job| counts[job] / 1e3);
+                let _ = writeln!(
+                    text,
+                    " {library:.1} | {plain:.1} | {:.2} |",
+                    library / plain
+                );
+            }
+            None => text.push_str(" | | |\n"),
+        }
+    }
+    let dijkstra = at((Call::Distance, Who::Dijkstra));
+    let library = at((Call::Distance, Who::Library));
+    let _ = write!(text, "\nDijkstra, one pair: {:.1} µs", net.times[dijkstra]);
+    if let Some(counts) = &net.counts {
+        let _ = write!(
+            text,
+            ", {:.1} thousand instructions: {:.2} times those of a distance",
+            counts[dijkstra] / 1e3,
+            counts[dijkstra] / counts[library]
+        );
+    }
+    text.push_str(".\n\n");
+}
+
+fn growth(text: &mut String, county: &Measured) {
+    let _ = write!(
+        text,
+        "| {} | {} | {} |",
+        county.n, county.arcs, county.edges
+    );
+    let library = CALLS.map(|call| (call, Who::Library));
+    for job in library.into_iter().chain([(Call::Distance, Who::Dijkstra)]) {
+        let _ = write!(text, " {:.1}", county.times[at(job)]);
+        match &county.counts {
+            Some(counts) => {
+                let _ = write!(text, "; {:.1} |", counts[at(job)] / 1e3);
+            }
+            None => text.push_str(" |"),
+        }
+    }
+    text.push('\n');
+}

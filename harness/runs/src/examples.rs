@@ -1,0 +1,232 @@
+//! The examples of document 01, through the wrappers.
+
+use crate::CLOSED;
+use calls::{build, customise, distance, route, Built, Customised, Distance, Refusal, Route};
+
+/// A net with its graph and costs, as the calls left them.
+struct Worked {
+    tails: Vec<u32>,
+    heads: Vec<u32>,
+    costs: Vec<u32>,
+    order: Vec<u32>,
+    rank: Vec<u32>,
+    first: Vec<u32>,
+    row_heads: Vec<u32>,
+    up: Vec<u32>,
+    down: Vec<u32>,
+}
+
+impl Worked {
+    fn new(arcs: &[(u32, u32, u32)], order: &[u32], heads_room: usize) -> (Worked, Built) {
+        let mut worked = Worked {
+            tails: arcs.iter().map(|arc| arc.0).collect(),
+            heads: arcs.iter().map(|arc| arc.1).collect(),
+            costs: arcs.iter().map(|arc| arc.2).collect(),
+            order: order.to_vec(),
+            rank: vec![77; order.len()],
+            first: vec![77; order.len() + 1],
+            row_heads: vec![77; heads_room],
+            up: vec![77; heads_room],
+            down: vec![77; heads_room],
+        };
+        let answer = build(
+            &worked.tails,
+            &worked.heads,
+            &worked.order,
+            &mut worked.rank,
+            &mut worked.first,
+            &mut worked.row_heads,
+        );
+        (worked, answer)
+    }
+
+    fn customise(&mut self) -> Customised {
+        customise(
+            &self.tails,
+            &self.heads,
+            &self.costs,
+            &self.order,
+            &self.rank,
+            &self.first,
+            &self.row_heads,
+            &mut self.up,
+            &mut self.down,
+        )
+    }
+
+    fn distance(&self, from: u32, to: u32) -> Distance {
+        distance(
+            &self.order,
+            &self.rank,
+            &self.first,
+            &self.row_heads,
+            &self.up,
+            &self.down,
+            from,
+            to,
+        )
+    }
+
+    fn route(&self, from: u32, to: u32, room: usize) -> (Route, Vec<u32>) {
+        let mut list = vec![77; room];
+        let answer = route(
+            &self.tails,
+            &self.heads,
+            &self.costs,
+            &self.order,
+            &self.rank,
+            &self.first,
+            &self.row_heads,
+            &self.up,
+            &self.down,
+            from,
+            to,
+            &mut list,
+        );
+        (answer, list)
+    }
+}
+
+const N4: [(u32, u32, u32); 5] = [(1, 0, 3), (0, 2, 4), (2, 3, 2), (3, 1, 6), (1, 3, 20)];
+
+/// How many examples were run, and the names of those that don't hold.
+pub fn run() -> (usize, Vec<String>) {
+    let mut results: Vec<(&str, bool)> = Vec::new();
+    let mut says = |name, holds| results.push((name, holds));
+    build_and_costs(&mut says);
+    distances_and_routes(&mut says);
+    refusals(&mut says);
+    let failed = results.iter().filter(|(_, holds)| !holds);
+    let failed = failed.map(|(name, _)| name.to_string()).collect();
+    (results.len(), failed)
+}
+
+fn build_and_costs(says: &mut impl FnMut(&'static str, bool)) {
+    let (mut n4, built) = Worked::new(&N4, &[0, 1, 2, 3], 6);
+    says("P1 E", built == Built::Edges(5));
+    says("P1 rank", n4.rank == [0, 1, 2, 3]);
+    says("P1 first", n4.first == [0, 2, 4, 5, 5]);
+    says("P1 heads", n4.row_heads == [1, 2, 2, 3, 3, 0]);
+    says("P2 done", n4.customise() == Customised::Done);
+    says("P2 up", n4.up == [CLOSED, 4, 7, 20, 2, CLOSED]);
+    says("P2 down", n4.down == [3, CLOSED, CLOSED, 6, 13, CLOSED]);
+
+    let (turned, built) = Worked::new(&N4, &[3, 2, 1, 0], 5);
+    says("P9 E", built == Built::Edges(5));
+    says("P9 first", turned.first == [0, 2, 4, 5, 5]);
+    says("P9 heads", turned.row_heads == [1, 2, 2, 3, 3]);
+    let star = [(0, 1, 1), (0, 2, 1), (0, 3, 1)];
+    says(
+        "P10 centre first",
+        Worked::new(&star, &[0, 1, 2, 3], 6).1 == Built::Edges(6),
+    );
+    says(
+        "P10 centre last",
+        Worked::new(&star, &[1, 2, 3, 0], 3).1 == Built::Edges(3),
+    );
+
+    let (lone, built) = Worked::new(&[], &[0], 0);
+    says("n = 1: E", built == Built::Edges(0));
+    says("n = 1: first", lone.first == [0, 0]);
+}
+
+fn distances_and_routes(says: &mut impl FnMut(&'static str, bool)) {
+    let goes = |worked: &Worked, from, to, tenths, arcs: &[u32]| {
+        let drive = Route::Drive {
+            distance: tenths,
+            arcs: arcs.len() as u64,
+        };
+        let mut list = arcs.to_vec();
+        list.extend([CLOSED; 2]);
+        worked.distance(from, to) == Distance::Tenths(tenths)
+            && worked.route(from, to, arcs.len() + 2) == (drive, list)
+            && worked.route(from, to, arcs.len()) == (drive, arcs.to_vec())
+    };
+    let nowhere = |worked: &Worked, from, to| {
+        worked.distance(from, to) == Distance::NoWalk
+            && worked.route(from, to, 2) == (Route::NoWalk, vec![CLOSED; 2])
+            && worked.route(from, to, 0) == (Route::NoWalk, vec![])
+    };
+    let (mut n4, _) = Worked::new(&N4, &[0, 1, 2, 3], 5);
+    n4.customise();
+    says("P3", goes(&n4, 1, 3, 9, &[0, 1, 2]));
+    says("P4", goes(&n4, 0, 1, 12, &[1, 2, 3]));
+    says("P5", goes(&n4, 2, 0, 11, &[2, 3, 0]));
+    says("P6", goes(&n4, 0, 0, 0, &[]));
+
+    let mut shut = N4.to_vec();
+    shut[2].2 = CLOSED;
+    let (mut n4, _) = Worked::new(&shut, &[0, 1, 2, 3], 5);
+    n4.customise();
+    says("P7 none", nowhere(&n4, 0, 1));
+    says("P7 arc 4", goes(&n4, 1, 3, 20, &[4]));
+    n4.costs[2] = 2;
+    n4.customise();
+    says("a reopened road", goes(&n4, 0, 1, 12, &[1, 2, 3]));
+
+    shut.push((1, 3, 30));
+    let (mut n4, _) = Worked::new(&shut, &[0, 1, 2, 3], 5);
+    n4.customise();
+    says("P8", goes(&n4, 1, 3, 30, &[5]));
+
+    let (mut n4, _) = Worked::new(&N4, &[3, 2, 1, 0], 5);
+    n4.customise();
+    says("P9 distance", goes(&n4, 1, 3, 9, &[0, 1, 2]));
+}
+
+fn refusals(says: &mut impl FnMut(&'static str, bool)) {
+    let every: Vec<u32> = (0..4_097).collect();
+    let refused = |refusal| Built::Refused(refusal);
+    says(
+        "n = 0",
+        Worked::new(&[], &[], 0).1 == refused(Refusal::JunctionCount),
+    );
+    says(
+        "n = 4,097",
+        Worked::new(&[], &every, 0).1 == refused(Refusal::JunctionCount),
+    );
+    says(
+        "n = 4,096",
+        Worked::new(&[], &every[..4_096], 0).1 == Built::Edges(0),
+    );
+    let (short, built) = Worked::new(&N4, &[0, 1, 2, 3], 4);
+    says("heads room 4", built == refused(Refusal::HeadsRoom));
+    let all_0 = [&short.rank, &short.first, &short.row_heads];
+    says(
+        "after 6 all 0",
+        all_0.iter().all(|list| list.iter().all(|&word| word == 0)),
+    );
+
+    let (mut n4, _) = Worked::new(&N4, &[0, 1, 2, 3], 5);
+    for (name, cost, answer) in [
+        ("cost 500,000", 500_000, Customised::Done),
+        (
+            "cost 500,001",
+            500_001,
+            Customised::Refused(Refusal::ArcCost(1)),
+        ),
+        ("cost 0", 0, Customised::Refused(Refusal::ArcCost(1))),
+    ] {
+        n4.costs[1] = cost;
+        says(name, n4.customise() == answer);
+    }
+
+    let (mut n4, _) = Worked::new(&N4, &[0, 1, 2, 3], 5);
+    n4.customise();
+    let full = Route::Refused(Refusal::RouteRoom);
+    let misfit = Route::Refused(Refusal::PieceFitsNothing);
+    says("room 2", n4.route(1, 3, 2) == (full, vec![CLOSED; 2]));
+    n4.costs[2] = 3;
+    says(
+        "arc 2 at 3, room 3",
+        n4.route(1, 3, 3) == (misfit, vec![CLOSED; 3]),
+    );
+    says(
+        "arc 2 at 3, room 2",
+        n4.route(1, 3, 2) == (misfit, vec![CLOSED; 2]),
+    );
+    says(
+        "arc 2 at 3, room 1",
+        n4.route(1, 3, 1) == (full, vec![CLOSED; 1]),
+    );
+}

@@ -1,0 +1,16 @@
+//! What the runs share: the calls under test, lists with guards, cases, judging, shrinking, reporting.
+
+pub mod bounds;
+pub mod examples;
+pub mod garbage;
+pub mod guarded;
+pub mod judge;
+pub mod lists;
+pub mod measure;
+pub mod ready;
+pub mod shrink;
+pub mod subject;
+pub mod tally;
+
+pub use naive::calls::Told;
+pub use naive::{CLOSED, NO_WALK};

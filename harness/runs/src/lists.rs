@@ -1,0 +1,362 @@
+//! Everything that a call can be handed, what it has to leave of it, and what it does leave.
+
+use crate::guarded::Guarded;
+use crate::subject::Subject;
+use crate::Told;
+use naive::calls::{self, Roadmap, Rows};
+use std::fmt;
+
+/// The four calls.
+#[derive(Clone, Copy, Debug, PartialEq, Eq)]
+pub enum Call {
+    /// Build.
+    Build,
+    /// Customise.
+    Customise,
+    /// Distance.
+    Distance,
+    /// Route.
+    Route,
+}
+
+/// Every list and number that some call gets.
+#[derive(Clone, Debug, Default, PartialEq, Eq)]
+pub struct Lists {
+    /// The arcs' tails.
+    pub tails: Vec<u32>,
+    /// The arcs' heads.
+    pub heads: Vec<u32>,
+    /// The arcs' costs.
+    pub costs: Vec<u32>,
+    /// The order.
+    pub order: Vec<u32>,
+    /// The rank list.
+    pub rank: Vec<u32>,
+    /// Where each row starts.
+    pub first: Vec<u32>,
+    /// The rows.
+    pub row_heads: Vec<u32>,
+    /// The up costs.
+    pub up: Vec<u32>,
+    /// The down costs.
+    pub down: Vec<u32>,
+    /// The route list.
+    pub route: Vec<u32>,
+    /// The start.
+    pub from: u32,
+    /// The target.
+    pub to: u32,
+}
+
+/// The lists' names, in the sequence of [`Lists::all`].
+pub const NAMES: [&str; 10] = [
+    "tails",
+    "heads",
+    "costs",
+    "order",
+    "rank",
+    "first",
+    "row heads",
+    "up",
+    "down",
+    "route",
+];
+
+impl Lists {
+    /// All lists.
+    pub fn all(&self) -> [&Vec<u32>; 10] {
+        [
+            &self.tails,
+            &self.heads,
+            &self.costs,
+            &self.order,
+            &self.rank,
+            &self.first,
+            &self.row_heads,
+            &self.up,
+            &self.down,
+            &self.route,
+        ]
+    }
+
+    /// All lists, to be written.
+    pub fn all_mut(&mut self) -> [&mut Vec<u32>; 10] {
+        [
+            &mut self.tails,
+            &mut self.heads,
+            &mut self.costs,
+            &mut self.order,
+            &mut self.rank,
+            &mut self.first,
+            &mut self.row_heads,
+            &mut self.up,
+            &mut self.down,
+            &mut self.route,
+        ]
+    }
+
+    /// The roads and the order, for the naive programs.
+    pub fn map(&self) -> Roadmap<'_> {
+        Roadmap {
+            tails: &self.tails,
+            heads: &self.heads,
+            costs: &self.costs,
+            order: &self.order,
+        }
+    }
+
+    /// The graph, for the naive programs.
+    pub fn rows(&self) -> Rows<'_> {
+        Rows {
+            rank: &self.rank,
+            first: &self.first,
+            row_heads: &self.row_heads,
+        }
+    }
+}
+
+impl fmt::Display for Lists {
+    fn fmt(&self, to: &mut fmt::Formatter) -> fmt::Result {
+        for (name, list) in NAMES.iter().zip(self.all()) {
+            writeln!(to, "  {name} ({}): {}", list.len(), shown(list))?;
+        }
+        write!(to, "  from {} to {}", self.from, self.to)
+    }
+}
+
+/// A list in one line, cut where it is long.
+pub fn shown(list: &[u32]) -> String {
+    let mut words: Vec<String> = list
+        .iter()
+        .take(80)
+        .map(|&word| shown_number(word))
+        .collect();
+    if list.len() > 80 {
+        words.push("..".to_string());
+    }
+    words.join(" ")
+}
+
+fn shown_number(word: u32) -> String {
+    match word {
+        u32::MAX => "CLOSED".to_string(),
+        word => word.to_string(),
+    }
+}
+
+/// What stands in a list that a call has to write, before the call: no two places alike.
+pub fn stale(length: usize) -> Vec<u32> {
+    (0..length as u32).map(|at| 70_000 + at).collect()
+}
+
+/// What a call tells and leaves.
+#[derive(Clone, Debug, PartialEq, Eq)]
+pub struct Outcome {
+    /// The numbers told.
+    pub told: Told,
+    /// All lists afterwards.
+    pub left: Lists,
+}
+
+/// What a call has to tell and to leave, by the naive programs.
+pub fn expected(call: Call, lists: &Lists) -> Outcome {
+    let mut left = lists.clone();
+    let told = match call {
+        Call::Build => {
+            let leaves = calls::build(
+                &lists.tails,
+                &lists.heads,
+                &lists.order,
+                &lists.rank,
+                &lists.first,
+                &lists.row_heads,
+            );
+            left.rank = leaves.rank;
+            left.first = leaves.first;
+            left.row_heads = leaves.row_heads;
+            leaves.told
+        }
+        Call::Customise => {
+            let leaves = calls::customise(lists.map(), lists.rows(), &lists.up, &lists.down);
+            left.up = leaves.up;
+            left.down = leaves.down;
+            leaves.told
+        }
+        Call::Distance => calls::distance(
+            &lists.order,
+            lists.rows(),
+            &lists.up,
+            &lists.down,
+            lists.from,
+            lists.to,
+        ),
+        Call::Route => {
+            let leaves = calls::route(
+                lists.map(),
+                lists.rows(),
+                &lists.up,
+                &lists.down,
+                lists.from,
+                lists.to,
+                &lists.route,
+            );
+            left.route = leaves.route;
+            leaves.told
+        }
+    };
+    Outcome { told, left }
+}
+
+/// Lists as a call gets them: guarded.
+pub struct Lent {
+    lists: [Guarded; 10],
+}
+
+impl Lent {
+    /// Copies of lists.
+    pub fn new(lists: &Lists) -> Lent {
+        Lent {
+            lists: lists.all().map(|list| Guarded::new(list)),
+        }
+    }
+
+    /// A new route list.
+    pub fn set_route(&mut self, route: &[u32]) {
+        self.lists[9] = Guarded::new(route);
+    }
+
+    /// Runs a call.
+    pub fn call(&mut self, subject: &dyn Subject, call: Call, from: u32, to: u32) -> Told {
+        let [tails, heads, costs, order, rank, first, row_heads, up, down, route] = &mut self.lists;
+        match call {
+            Call::Build => subject.build(
+                tails.list(),
+                heads.list(),
+                order.list(),
+                rank.list_mut(),
+                first.list_mut(),
+                row_heads.list_mut(),
+            ),
+            Call::Customise => subject.customise(
+                tails.list(),
+                heads.list(),
+                costs.list(),
+                order.list(),
+                rank.list(),
+                first.list(),
+                row_heads.list(),
+                up.list_mut(),
+                down.list_mut(),
+            ),
+            Call::Distance => subject.distance(
+                order.list(),
+                rank.list(),
+                first.list(),
+                row_heads.list(),
+                up.list(),
+                down.list(),
+                from,
+                to,
+            ),
+            Call::Route => subject.route(
+                tails.list(),
+                heads.list(),
+                costs.list(),
+                order.list(),
+                rank.list(),
+                first.list(),
+                row_heads.list(),
+                up.list(),
+                down.list(),
+                from,
+                to,
+                route.list_mut(),
+            ),
+        }
+    }
+
+    /// The route list.
+    pub fn route(&self) -> &[u32] {
+        self.lists[9].list()
+    }
+
+    /// Whether the route list's guards hold.
+    pub fn route_holds(&mut self) -> bool {
+        self.lists[9].holds()
+    }
+
+    /// The first list that a call has touched though it had no leave to, if any: outside it, or one lent for reading.
+    pub fn trespass(&mut self, call: Call) -> Option<String> {
+        let writable: &[usize] = match call {
+            Call::Build => &[4, 5, 6],
+            Call::Customise => &[7, 8],
+            Call::Distance => &[],
+            Call::Route => &[9],
+        };
+        for (at, list) in self.lists.iter_mut().enumerate() {
+            if !list.holds() {
+                return Some(format!("wrote outside its list {}", NAMES[at]));
+            }
+            if !writable.contains(&at) && !list.untouched() {
+                return Some(format!(
+                    "wrote the list {}, which is lent for reading",
+                    NAMES[at]
+                ));
+            }
+        }
+        None
+    }
+
+    /// What the lists now hold.
+    pub fn into_lists(self, from: u32, to: u32) -> Lists {
+        let lists = self.lists.map(|list| list.list().to_vec());
+        let [tails, heads, costs, order, rank, first, row_heads, up, down, route] = lists;
+        Lists {
+            tails,
+            heads,
+            costs,
+            order,
+            rank,
+            first,
+            row_heads,
+            up,
+            down,
+            route,
+            from,
+            to,
+        }
+    }
+}
+
+/// Holds a subject's call to what is expected of it.
+pub fn compare(
+    subject: &dyn Subject,
+    call: Call,
+    lists: &Lists,
+    expected: &Outcome,
+) -> Result<(), String> {
+    let mut lent = Lent::new(lists);
+    let told = lent.call(subject, call, lists.from, lists.to);
+    let name = subject.name();
+    if let Some(trespass) = lent.trespass(call) {
+        return Err(format!("{name}: {call:?} {trespass}"));
+    }
+    let left = lent.into_lists(lists.from, lists.to);
+    if told != expected.told {
+        return Err(format!(
+            "{name}: {call:?} told {told:?}, expected {:?}",
+            expected.told
+        ));
+    }
+    for (at, (got, want)) in left.all().iter().zip(expected.left.all()).enumerate() {
+        if *got != want {
+            return Err(format!(
+                "{name}: {call:?} told {told:?} and left in {}:\n  got      {}\n  expected {}",
+                NAMES[at],
+                shown(got),
+                shown(want)
+            ));
+        }
+    }
+    Ok(())
+}

@@ -1,0 +1,165 @@
+//! Makes a failing case small: leaves out whatever the failure doesn't need.
+
+use crate::lists::Lists;
+use crate::CLOSED;
+use cases::Case;
+use nets::order;
+use std::time::{Duration, Instant};
+
+/// How long shrinking may take.
+const LIMIT: Duration = Duration::from_secs(15);
+
+/// The smallest case found that still fails, with its failure.
+pub fn shrink<T: Clone>(
+    failing: T,
+    failure: String,
+    smaller: impl Fn(&T) -> Vec<T>,
+    fails: impl Fn(&T) -> Option<String>,
+) -> (T, String) {
+    let start = Instant::now();
+    let (mut best, mut failure) = (failing, failure);
+    'again: loop {
+        for candidate in smaller(&best) {
+            if start.elapsed() > LIMIT {
+                return (best, failure);
+            }
+            if let Some(said) = fails(&candidate) {
+                best = candidate;
+                failure = said;
+                continue 'again;
+            }
+        }
+        return (best, failure);
+    }
+}
+
+/// Ranges to leave out of a list: halves, quarters and so on, down to single places.
+fn cuts(length: usize) -> Vec<(usize, usize)> {
+    let mut cuts = Vec::new();
+    let mut size = length;
+    while size > 0 {
+        let mut start = 0;
+        while start < length {
+            cuts.push((start, (start + size).min(length)));
+            start += size;
+        }
+        size /= 2;
+    }
+    cuts
+}
+
+/// Cases that are a step smaller.
+pub fn smaller_cases(case: &Case) -> Vec<Case> {
+    let mut smaller = Vec::new();
+    let mut add = |change: &dyn Fn(&mut Case)| {
+        let mut candidate = case.clone();
+        change(&mut candidate);
+        if candidate != *case {
+            smaller.push(candidate);
+        }
+    };
+    add(&|case| case.damage.clear());
+    add(&|case| case.besides.clear());
+    add(&|case| case.later = case.costs.clone());
+    for (start, end) in cuts(case.tails.len()) {
+        add(&|case| {
+            for list in [
+                &mut case.tails,
+                &mut case.heads,
+                &mut case.costs,
+                &mut case.later,
+            ] {
+                list.drain(start..end);
+            }
+        });
+    }
+    for junction in (0..case.n as u32).rev() {
+        if case.n > 1 {
+            add(&|case| drop_junction(case, junction));
+        }
+    }
+    for (start, end) in cuts(case.damage.len()) {
+        add(&|case| drop(case.damage.drain(start..end)));
+    }
+    for (start, end) in cuts(case.besides.len()) {
+        add(&|case| drop(case.besides.drain(start..end)));
+    }
+    for arc in 0..case.later.len() {
+        add(&|case| case.later[arc] = case.costs[arc]);
+    }
+    add(&|case| case.order = order::by_number(case.n));
+    add(&|case| case.spare = [0; 4]);
+    for arc in 0..case.costs.len() {
+        for cost in [1, 2, 3, 5] {
+            add(&|case| {
+                if case.costs[arc] != CLOSED && case.costs[arc] > cost {
+                    let unchanged = case.later[arc] == case.costs[arc];
+                    case.costs[arc] = cost;
+                    if unchanged {
+                        case.later[arc] = cost;
+                    }
+                }
+            });
+        }
+    }
+    smaller
+}
+
+/// Leaves a junction out, with all that touches it.
+fn drop_junction(case: &mut Case, junction: u32) {
+    let touches = |arc: usize| case.tails[arc] == junction || case.heads[arc] == junction;
+    let kept: Vec<usize> = (0..case.tails.len()).filter(|&arc| !touches(arc)).collect();
+    let renumbered = |at: u32| if at > junction { at - 1 } else { at };
+    case.n -= 1;
+    case.tails = kept
+        .iter()
+        .map(|&arc| renumbered(case.tails[arc]))
+        .collect();
+    case.heads = kept
+        .iter()
+        .map(|&arc| renumbered(case.heads[arc]))
+        .collect();
+    case.costs = kept.iter().map(|&arc| case.costs[arc]).collect();
+    case.later = kept.iter().map(|&arc| case.later[arc]).collect();
+    case.order.retain(|&at| at != junction);
+    case.order.iter_mut().for_each(|at| *at = renumbered(*at));
+    case.besides
+        .retain(|&(a, b)| a != junction && b != junction);
+    for (a, b) in &mut case.besides {
+        (*a, *b) = (renumbered(*a), renumbered(*b));
+    }
+}
+
+/// Lists that are a step smaller.
+pub fn smaller_lists(lists: &Lists) -> Vec<Lists> {
+    let mut smaller = Vec::new();
+    for at in 0..10 {
+        for (start, end) in cuts(lists.all()[at].len()) {
+            let mut candidate = lists.clone();
+            candidate.all_mut()[at].drain(start..end);
+            smaller.push(candidate);
+        }
+    }
+    for arc in 0..lists
+        .tails
+        .len()
+        .min(lists.heads.len())
+        .min(lists.costs.len())
+    {
+        let mut candidate = lists.clone();
+        for at in 0..3 {
+            candidate.all_mut()[at].remove(arc);
+        }
+        smaller.push(candidate);
+    }
+    for at in 0..10 {
+        for place in 0..lists.all()[at].len() {
+            if lists.all()[at][place] > 1 {
+                let mut candidate = lists.clone();
+                candidate.all_mut()[at][place] = 1;
+                smaller.push(candidate);
+            }
+        }
+    }
+    smaller
+}

@@ -1,0 +1,180 @@
+/*
+ * Griezmuld: cheapest driving routes of milk tankers.
+ *
+ * Four calls. griezmuld_build makes a graph of shortcuts from the roads and an order of the junctions; it is called once
+ * for an area. griezmuld_customise puts costs onto that graph; it is called whenever a cost changes. griezmuld_distance
+ * and griezmuld_route then answer questions.
+ *
+ * The net
+ *   Junctions are numbered 0 to n - 1. There are 1 to 4,096 of them.
+ *   Arcs are one-way pieces of road, numbered from 0 in list order: arc i leads from tails[i] to heads[i] and costs
+ *   costs[i]. There are at most 16,384 of them. A road for both ways is two arcs.
+ *   A cost is 1 to 500,000 tenths of a second, or GRIEZMULD_CLOSED for an arc that nobody may drive.
+ *   If several arcs have the same tail and the same head, only the last of them counts, even where that one is closed.
+ *   Arcs whose ends are equal are accepted and never used.
+ *   The order list holds each junction once: order[p] is the junction at position p. n is its length, in every call. Any
+ *   order gives right answers; one made by cutting the map in halves again and again gives small graphs and quick answers.
+ *
+ * The graph
+ *   It is held in three lists that build writes: rank (n long; the position of each junction), first (n + 1 long) and
+ *   row_heads. The higher neighbours of position p stand in row_heads, at places first[p] up to but not including
+ *   first[p + 1]. E, the number of edges, is first[n]. The costs of the edge at place k are up[k], from the lower position
+ *   to the higher, and down[k], back.
+ *   The caller hands these lists on as they are and need not look into them.
+ *
+ * Lists, and who owns them
+ *   Every list is a pointer and a length, counted in elements. The caller owns every list, before and after. A call keeps
+ *   no pointer, takes no memory from a heap, and has no state: calls on different lists may run on several threads at once.
+ *   A list that is const is only read. A list that a call writes must not overlap any other list of that call.
+ *   A pointer must not be NULL, even where its length is 0; it is then not used.
+ *
+ * Replies
+ *   Each call returns the number of a refusal, 0 when it has accepted. It always writes *place: the place of the fault,
+ *   which is 0 unless the table below names another, and 0 when accepted. Its other numbers it always writes, too; after a
+ *   refusal they are 0.
+ *   Whatever the lists hold, a call returns, and it writes nothing outside the lists and numbers that it is lent to write.
+ *
+ * Refusals. A call makes its checks in the order given with it; the first that fails decides, and the lowest fault of a
+ * kind gives the place.
+ *    1  n is 0 or over 4,096
+ *    2  the arc lists differ in length or exceed 16,384
+ *    3  an arc end is n or more; the place is the arc
+ *    4  an order entry is n or more, or was seen earlier; the place is the position
+ *    5  rank isn't n long, or first isn't n + 1 long
+ *    6  row_heads is shorter than E
+ *    7  rank, first and row_heads aren't a graph that build could have written for this order
+ *       (precisely: aren't a hierarchy in the sense of document 01; a few more edges than build would make are allowed)
+ *    8  an arc with unequal ends has no edge; the place is the arc
+ *    9  an arc cost is 0, or over 500,000 and not closed; the place is the arc
+ *   10  up or down is shorter than E
+ *   11  from or to is n or more
+ *   12  an arc of the route has no place left
+ *   13  a piece of the route fits neither an arc nor two lower pieces: up and down were not customised for these costs
+ * After a refusal every list is as it was, except: after 6, rank, first and row_heads are all 0; after 12 or 13 every place
+ * of the route list is 4,294,967,295.
+ *
+ * How long the lists must be, for m arcs
+ *   tails, heads, costs   m
+ *   order, rank           n
+ *   first                 n + 1
+ *   row_heads, up, down   at least E. E isn't known before build has run: it is at most n * (n - 1) / 2, and on a road map
+ *                         with a good order some 3 to 15 times n. If row_heads was too short (6), lend a longer one.
+ *   route                 at least the number of arcs of the route: n - 1 is enough where up and down were customised
+ *                         for the costs at hand.
+ *
+ * An example, for two junctions with a road each way:
+ *
+ *   uint32_t tails[2] = {0, 1}, heads[2] = {1, 0}, costs[2] = {120, 150}, order[2] = {0, 1};
+ *   uint32_t rank[2], first[3], row_heads[1], up[1], down[1], route[1];
+ *   uint64_t place, edges, distance, arcs;
+ *   uint32_t refused = griezmuld_build(tails, 2, heads, 2, order, 2, rank, 2, first, 3, row_heads, 1, &place, &edges);
+ *   if (refused == 0)
+ *       refused = griezmuld_customise(tails, 2, heads, 2, costs, 2, order, 2, rank, 2, first, 3, row_heads, 1,
+ *                                     up, 1, down, 1, &place);
+ *   if (refused == 0)
+ *       refused = griezmuld_route(tails, 2, heads, 2, costs, 2, order, 2, rank, 2, first, 3, row_heads, 1,
+ *                                 up, 1, down, 1, 1, 0, route, 1, &place, &distance, &arcs);
+ *   // now refused is 0, distance is 150, arcs is 1, route[0] is 1
+ *
+ * A longer one is examples/c/example.c. Link with libtablet.a, which `rt staticlib tablet` writes to target/staticlib.
+ */
+#ifndef GRIEZMULD_H
+#define GRIEZMULD_H
+
+#include <stddef.h>
+#include <stdint.h>
+
+#ifdef __cplusplus
+extern "C" {
+#endif
+
+/* The cost of a closed arc, and of an edge that nobody can drive; what fills a route list where no arc stands. */
+#define GRIEZMULD_CLOSED UINT32_MAX
+
+/* The distance where no walk leads from one junction to the other. */
+#define GRIEZMULD_NO_WALK UINT64_MAX
+
+/* The greatest cost of an arc that isn't closed. */
+#define GRIEZMULD_GREATEST_COST 500000u
+
+/* The most junctions and the most arcs of a net. */
+#define GRIEZMULD_MOST_JUNCTIONS 4096u
+#define GRIEZMULD_MOST_ARCS 16384u
+
+/*
+ * Builds the graph of shortcuts into rank, first and row_heads. It asks for no costs: closed arcs have their place in the
+ * graph, so that a road that opens again needs no new one.
+ * *edges becomes E. Places of row_heads past E become 0.
+ * Checks: 1, 2, 3, 4, 5, 6.
+ */
+uint32_t griezmuld_build(
+    const uint32_t *tails, size_t tails_length,
+    const uint32_t *heads, size_t heads_length,
+    const uint32_t *order, size_t order_length,
+    uint32_t *rank, size_t rank_length,
+    uint32_t *first, size_t first_length,
+    uint32_t *row_heads, size_t row_heads_length,
+    uint64_t *place,
+    uint64_t *edges);
+
+/*
+ * Puts the arcs' costs onto the graph: writes up and down. Places past E become GRIEZMULD_CLOSED.
+ * Checks: 1, 2, 3, 4, 7, 8, 9, 10.
+ */
+uint32_t griezmuld_customise(
+    const uint32_t *tails, size_t tails_length,
+    const uint32_t *heads, size_t heads_length,
+    const uint32_t *costs, size_t costs_length,
+    const uint32_t *order, size_t order_length,
+    const uint32_t *rank, size_t rank_length,
+    const uint32_t *first, size_t first_length,
+    const uint32_t *row_heads, size_t row_heads_length,
+    uint32_t *up, size_t up_length,
+    uint32_t *down, size_t down_length,
+    uint64_t *place);
+
+/*
+ * The distance from one junction to another, in tenths of a second: *distance, or GRIEZMULD_NO_WALK where no walk leads
+ * there. With up and down as customise left them it is the least cost of any walk along open arcs.
+ * Checks: 1, 4, 7, 10, 11.
+ */
+uint32_t griezmuld_distance(
+    const uint32_t *order, size_t order_length,
+    const uint32_t *rank, size_t rank_length,
+    const uint32_t *first, size_t first_length,
+    const uint32_t *row_heads, size_t row_heads_length,
+    const uint32_t *up, size_t up_length,
+    const uint32_t *down, size_t down_length,
+    uint32_t from,
+    uint32_t to,
+    uint64_t *place,
+    uint64_t *distance);
+
+/*
+ * The route from one junction to another: *distance as above, *arcs the number of arcs, and the arcs' numbers in driving
+ * order in the route list. Its other places become 4,294,967,295, and all of them do where no walk leads there; *arcs is
+ * then 0. Costs must be those that up and down were customised for; else the call may refuse with 13.
+ * Checks: 1, 2, 3, 4, 7, 8, 9, 10, 11, then 12 and 13, whichever is met first on the way.
+ */
+uint32_t griezmuld_route(
+    const uint32_t *tails, size_t tails_length,
+    const uint32_t *heads, size_t heads_length,
+    const uint32_t *costs, size_t costs_length,
+    const uint32_t *order, size_t order_length,
+    const uint32_t *rank, size_t rank_length,
+    const uint32_t *first, size_t first_length,
+    const uint32_t *row_heads, size_t row_heads_length,
+    const uint32_t *up, size_t up_length,
+    const uint32_t *down, size_t down_length,
+    uint32_t from,
+    uint32_t to,
+    uint32_t *route, size_t route_length,
+    uint64_t *place,
+    uint64_t *distance,
+    uint64_t *arcs);
+
+#ifdef __cplusplus
+}
+#endif
+
+#endif
