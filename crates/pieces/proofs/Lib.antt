@@ -1,0 +1,4 @@
+pub mod PutLaws
+pub mod ArcSearch
+pub mod MiddleLaws
+pub mod OpenLaws

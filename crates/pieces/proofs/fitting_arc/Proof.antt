@@ -1,0 +1,82 @@
+-- `fitting_arc` meets its contract. Assumes nothing.
+use borrow.Author.Needs.{needs}
+use Prim.Native.Nat.{_<_}
+use native.Mathlib.Omega.{arith}
+use mathlib.Core.Path.{_≡_, refl, sym, _∙_}
+use lib.ListN.{length}
+use Rattle.pieces.proofs.ArcSearch.{unlisted, shut-piece, other-cost, same-cost}
+use Rattle.pieces.proofs.fitting_arc.Statement.{statement}
+use Rattle.pieces.proofs.fitting_arc.Tie as tie
+use Rattle.pieces.proofs.fitting_arc.Reads as reads
+use Rattle.pieces.proofs.fitting_arc.Lts as lts
+
+last-arc-requires : tie.Need-last-arc-requires
+last-arc-requires c κs =
+    let s = c .before .before .before .before .before in
+    let p = s .pre in
+    (p .falls, omega (arith, p .seats .within (s .args .a .0) (p .from-in), p .few, c .before .junction-at .ensures), p .fit)
+
+-- the arc found is listed
+listed : (c : tie.After-i) → c .i .given .0 .0 < length (c .before .before .before .before .before .before .before .before .args .heads .now)
+listed c = rw (c .i .given .1) at (c .before .before .last-arc .ensures .0)
+
+returns : tie.Need-returns
+returns c =
+    let l = c .before .before in
+    let s = l .before .before .before .before .before .before in (
+      tt,
+      λ tails B. unlisted tails _ _ _ _ _ B _ _ _ (s .pre) _ _ (l .before .before .junction-at .ensures) (l .before .junction-at2 .ensures)
+          (sym (c .enum-told .given .1) ∙ l .last-arc .ensures .1 tails B),
+    )
+
+returns-2 : tie.Need-returns-2
+returns-2 c =
+    let l = c .before .before .before .before .before .before in
+    let s = l .before .before .before .before .before .before in
+    (tt, λ tails B. shut-piece tails _ _ _ _ _ B _ _ _ (s .pre) _ _ (l .before .before .junction-at .ensures) (l .before .junction-at2 .ensures) (c .if1 .taken))
+
+mul-if2 : tie.Need-mul-if2
+mul-if2 c =
+    let i = c .before .before .before .before in
+    omega (arith, listed i, i .before .before .before .before .before .before .before .before .pre .costs-long)
+
+shared-slice-read-if2 : tie.Need-shared-slice-read-if2
+shared-slice-read-if2 c =
+    let i = c .before .before .before .before .before in
+    omega (arith, listed i, i .before .before .before .before .before .before .before .before .pre .costs-long)
+
+returns-3 : tie.Need-returns-3
+returns-3 c =
+    let i = c .before .before .before .before .before .before .before in
+    let l = i .before .before in
+    let s = l .before .before .before .before .before .before in (
+      tt,
+      λ tails B. other-cost tails _ _ _ _ _ B _ _ _ (s .pre) _ _ (l .before .before .junction-at .ensures) (l .before .junction-at2 .ensures) _
+          (sym (i .i .given .1) ∙ l .last-arc .ensures .1 tails B) (c .before .before .before .if1 .left) (c .if2 .taken),
+    )
+
+returns-4 : tie.Need-returns-4
+returns-4 c =
+    let i = c .before .before .before .before .before .before .before in
+    let l = i .before .before in
+    let s = l .before .before .before .before .before .before in (
+      listed i,
+      λ tails B. same-cost tails _ _ _ _ _ B _ _ _ (s .pre) _ _ (l .before .before .junction-at .ensures) (l .before .junction-at2 .ensures) _
+          (sym (i .i .given .1) ∙ l .last-arc .ensures .1 tails B) (c .before .before .before .if1 .left) (c .if2 .left),
+    )
+
+pub fitting-arc-spec : {M : Type 1} → statement M
+fitting-arc-spec =
+    tie.close
+    (tie.spec
+    (λ c κs. search needs)
+    (λ c κs. search needs)
+    last-arc-requires
+    (λ c. search needs)
+    (λ c. search needs)
+    returns
+    returns-2
+    mul-if2
+    shared-slice-read-if2
+    returns-3
+    returns-4)
