@@ -9,14 +9,14 @@ use lib.ListN.{length, getD, replicate, take}
 use borrow.Author.Tests.{leb-true, leb-false, lt-ltb, le-ltb, eq-eqb, ne-eqb}
 use Rattle.rules.specs.Costs.{none}
 use Rattle.rules.specs.Replies.{Reply, refused, edges, done, far, noWalk}
-use Rattle.rules.specs.Net.{Net, net, rankList}
+use Rattle.rules.specs.Net.{Net, net, size, rankList}
 use Rattle.rules.specs.Graph.{firstList, headsList, edgeCount}
 use Rattle.rules.specs.Refusals.{passes, fails, check1, check4, check6, check7, check10, check11}
 use Rattle.rules.specs.Hierarchy.{itsE}
-use Rattle.rules.specs.Calls.{buildLeft, buildChecks, buildLeaves, customiseLeft, customiseChecks, customiseLeaves, distanceLeft, distanceChecks, listedDistance, distanceLeaves}
+use Rattle.rules.specs.Calls.{buildLeft, buildChecks, buildLeaves, customiseLeft, customiseChecks, customiseLeaves, distanceLeft, distanceChecks, listedDistance, distanceLeaves, RouteLeaves, routeLeft, routeChecks, routeLeaves}
 use Rattle.theory.proofs.Laws.{either, split}
 use Rattle.theory.proofs.Verdicts.{first-passes}
-use Rattle.theory.proofs.Accepted.{passes1, passes7, passes10, passes11}
+use Rattle.theory.proofs.Accepted.{Accepted, accepted, passes1, passes7, passes10, passes11}
 use Rattle.theory.proofs.Ranks.{Ordered, Inverse, ordered, inverse, inverse-list}
 use Rattle.theory.proofs.Rows.{Rows, rows, ranked}
 use Rattle.theory.proofs.BuildFits.{Buildable, buildable}
@@ -25,6 +25,7 @@ use Rattle.graph.specs.declared.Room.{Room}
 use Rattle.graph.specs.declared.Room.the-variants.{Next, Full}
 use Rattle.customise.specs.Steps.{CustomisedLists}
 use Rattle.distance.specs.Labelled.{Lists, count}
+use Rattle.unpack.specs.Driving.{routeFound}
 
 -- ---- build
 
@@ -161,3 +162,32 @@ module _ (order rank first rowHeads up down : List ℕ) (from to : ℕ) where
     unfolding distanceLeaves
     distance-told f =
         rw (c, ne-eqb (listedDistance (length order) first rowHeads up down (getD rank from 0) (getD rank to 0)) none (λ g. f (far-is ∙ g)), ← far-is) refl
+
+-- ---- route
+
+module _ (N : Net) (rank first rowHeads up down : List ℕ) (from to : ℕ) (route₀ : List ℕ) where
+  pub route-refused : (k p : ℕ) → routeChecks N rank first rowHeads up down from to ≡ fails k p
+      → routeLeft route₀ (refused k p) ≡ routeLeaves N rank first rowHeads up down from to route₀
+  unfolding routeLeaves
+  route-refused k p e = rw e refl
+
+  -- what route's checks establish
+  pub record Driven : Type 0 where
+    pub roads : Accepted N rank first rowHeads up down
+    pub start : from < size N
+    pub target : to < size N
+
+  pub driven-asked : routeChecks N rank first rowHeads up down from to ≡ passes → Driven
+  unfolding routeChecks
+  driven-asked e =
+      let p = first-passes (customiseChecks N rank first rowHeads up down) (check11 (size N) from to ∷ []) e in
+      let q = first-passes (check11 (size N) from to) [] (p .1) in
+      let (s, t) = passes11 (size N) from to (q .0) in
+      record { roads = accepted N rank first rowHeads up down (p .0); start = s; target = t }
+
+  -- the route was looked for
+  pub route-told : (left : RouteLeaves) (s t : ℕ) → routeChecks N rank first rowHeads up down from to ≡ passes
+      → left ≡ routeFound N first rowHeads up down s t (length route₀) → s ≡ getD rank from 0 → t ≡ getD rank to 0
+      → left ≡ routeLeaves N rank first rowHeads up down from to route₀
+  unfolding routeLeaves routeFound
+  route-told left s t c e es et = rw (c, ← es, ← et) e

@@ -3,10 +3,11 @@
 
 ghost use mathlib.Core.Path.{_≡_};
 ghost use Rattle.rules.specs.Net.{net};
-ghost use Rattle.rules.specs.Replies.{buildReply, customiseReply, distanceReply};
-ghost use Rattle.rules.specs.Calls.{buildLeft, buildLeaves, customiseLeft, customiseLeaves, distanceLeft, distanceLeaves};
+ghost use Rattle.rules.specs.Replies.{buildReply, customiseReply, distanceReply, routeReply};
+ghost use Rattle.rules.specs.Calls.{buildLeft, buildLeaves, customiseLeft, customiseLeaves, distanceLeft, distanceLeaves, routeLeft, routeLeaves};
 use checks::check_customise;
 use checks::check_distance;
+use checks::check_route;
 use customise::customise_costs;
 use distance::ask;
 use graph::Room;
@@ -21,6 +22,8 @@ use rules::CustomiseAnswer;
 use rules::DistanceAnswer;
 use rules::Junction;
 use rules::Refusal;
+use rules::RouteAnswer;
+use unpack::drive;
 
 // Roads and order to the shortcut graph: rank, first and row_heads are filled, and E is told.
 pub fn build(
@@ -107,4 +110,54 @@ pub fn distance<'a>(
         return DistanceAnswer::NoWalk;
     }
     DistanceAnswer::Tenths(d)
+}
+
+// The distance between two junctions, and the arcs of the route in driving order, written into the list.
+pub fn route<'a>(
+    tails: &[u32],
+    heads: &[u32],
+    costs: &[u32],
+    order: &[u32],
+    rank: &[u32],
+    first: &[u32],
+    row_heads: &[u32],
+    up: &'a [u32],
+    down: &'a [u32],
+    from: Junction,
+    to: Junction,
+    list: &mut [u32],
+) -> RouteAnswer
+    ensures { λ r. ⌜ routeLeft (now (list .exit)) (routeReply r) ≡ routeLeaves (net (now (tails .entry)) (now (heads .entry)) (now (costs .entry)) (now (order .entry))) (now (rank .entry)) (now (first .entry)) (now («row_heads» .entry)) (now (up .entry)) (now (down .entry)) (from .0) (to .0) (now (list .entry)) ⌝ }
+{
+    if let Check::Fails(refusal) = check_route(
+        tails,
+        heads,
+        costs,
+        order,
+        rank,
+        first,
+        row_heads,
+        up,
+        down,
+        from,
+        to,
+    ) {
+        return RouteAnswer::Refused(refusal);
+    }
+    let s = position_of(rank, from);
+    let t = position_of(rank, to);
+    drive(
+        tails,
+        heads,
+        costs,
+        order,
+        rank,
+        first,
+        row_heads,
+        up,
+        down,
+        s,
+        t,
+        list,
+    )
 }
