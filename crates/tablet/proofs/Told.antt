@@ -2,9 +2,9 @@
 use Prim.Native.Nat.{ℕ}
 use mathlib.Core.Path.{_≡_, ap}
 use mathlib.Core.List.{List}
-use Rattle.rules.specs.Replies.{Reply, numberTold, placeTold, edgesTold, distanceTold}
-use Rattle.rules.specs.Calls.{BuildLeaves, buildLeft, CustomiseLeaves, customiseLeft, DistanceLeaves, distanceLeft}
-use Rattle.tablet.specs.Numbers.{buildNumbers, buildTold, customiseNumbers, customiseTold, distanceNumbers, distanceToldOf}
+use Rattle.rules.specs.Replies.{Reply, numberTold, placeTold, edgesTold, distanceTold, arcsTold}
+use Rattle.rules.specs.Calls.{BuildLeaves, buildLeft, CustomiseLeaves, customiseLeft, DistanceLeaves, distanceLeft, RouteLeaves, routeLeft}
+use Rattle.tablet.specs.Numbers.{buildNumbers, buildTold, customiseNumbers, customiseTold, distanceNumbers, distanceToldOf, routeNumbers, routeTold}
 
 pub told-build : (r : Reply) (n p e : ℕ) (rank first heads : List ℕ) (l : BuildLeaves) → n ≡ numberTold r → p ≡ placeTold r → e ≡ edgesTold r
     → buildLeft rank first heads r ≡ l → buildNumbers n p e rank first heads ≡ buildTold l
@@ -17,3 +17,7 @@ told-customise r n p up down l en ep el = rw (en, ep) (ap customiseTold el)
 pub told-distance : (r : Reply) (n p d : ℕ) (l : DistanceLeaves) → n ≡ numberTold r → p ≡ placeTold r → d ≡ distanceTold r
     → distanceLeft r ≡ l → distanceNumbers n p d ≡ distanceToldOf l
 told-distance r n p d l en ep ed el = rw (en, ep, ed) (ap distanceToldOf el)
+
+pub told-route : (r : Reply) (n p d k : ℕ) (route : List ℕ) (l : RouteLeaves) → n ≡ numberTold r → p ≡ placeTold r → d ≡ distanceTold r → k ≡ arcsTold r
+    → routeLeft route r ≡ l → routeNumbers n p d k route ≡ routeTold l
+told-route r n p d k route l en ep ed ek el = rw (en, ep, ed, ek) (ap routeTold el)

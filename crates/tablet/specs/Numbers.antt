@@ -2,8 +2,8 @@
 -- the distance 18,446,744,073,709,551,615. With every lent list this is all that a call leaves. Assumes nothing.
 use Prim.Native.Nat.{ℕ}
 use mathlib.Core.List.{List}
-use Rattle.rules.specs.Replies.{numberTold, placeTold, edgesTold, distanceTold}
-use Rattle.rules.specs.Calls.{BuildLeaves, CustomiseLeaves, DistanceLeaves}
+use Rattle.rules.specs.Replies.{numberTold, placeTold, edgesTold, distanceTold, arcsTold}
+use Rattle.rules.specs.Calls.{BuildLeaves, CustomiseLeaves, DistanceLeaves, RouteLeaves}
 
 pub record BuildNumbers : Type 0 where
   pub number : ℕ
@@ -41,3 +41,17 @@ distanceNumbers n p d = record { number = n; place = p; distance = d }
 
 abbrev pub distanceToldOf : DistanceLeaves → DistanceNumbers
 distanceToldOf l = distanceNumbers (numberTold (l .reply)) (placeTold (l .reply)) (distanceTold (l .reply))
+
+pub record RouteNumbers : Type 0 where
+  pub number : ℕ
+  pub place : ℕ
+  pub distance : ℕ
+  pub arcs : ℕ
+  pub route : List ℕ
+
+abbrev pub routeNumbers : ℕ → ℕ → ℕ → ℕ → List ℕ → RouteNumbers
+routeNumbers n p d k route = record { number = n; place = p; distance = d; arcs = k; route = route }
+
+abbrev pub routeTold : RouteLeaves → RouteNumbers
+routeTold l =
+    routeNumbers (numberTold (l .reply)) (placeTold (l .reply)) (distanceTold (l .reply)) (arcsTold (l .reply)) (l .route)

@@ -2,11 +2,12 @@
 
 ghost use mathlib.Core.Path.{_≡_};
 ghost use Rattle.rules.specs.Net.{net};
-ghost use Rattle.rules.specs.Calls.{buildLeaves, customiseLeaves, distanceLeaves};
-ghost use Rattle.tablet.specs.Numbers.{buildNumbers, buildTold, customiseNumbers, customiseTold, distanceNumbers, distanceToldOf};
+ghost use Rattle.rules.specs.Calls.{buildLeaves, customiseLeaves, distanceLeaves, routeLeaves};
+ghost use Rattle.tablet.specs.Numbers.{buildNumbers, buildTold, customiseNumbers, customiseTold, distanceNumbers, distanceToldOf, routeNumbers, routeTold};
 use griezmuld::build;
 use griezmuld::customise;
 use griezmuld::distance;
+use griezmuld::route;
 use rules::Junction;
 
 // Roads and order to the shortcut graph.
@@ -78,5 +79,46 @@ pub extern "C" fn griezmuld_distance<'a>(
     );
     *place = answer.place() as u64;
     *distance_told = answer.distance();
+    answer.number()
+}
+
+// The distance and the route between two junctions.
+#[no_mangle]
+pub extern "C" fn griezmuld_route<'a>(
+    tails: &[u32],
+    heads: &[u32],
+    costs: &[u32],
+    order: &[u32],
+    rank: &[u32],
+    first: &[u32],
+    row_heads: &[u32],
+    up: &'a [u32],
+    down: &'a [u32],
+    from: u32,
+    to: u32,
+    list: &mut [u32],
+    place: &mut u64,
+    distance_told: &mut u64,
+    arcs_told: &mut u64,
+) -> u32
+    ensures { λ r. ⌜ routeNumbers r (now (place .exit)) (now («distance_told» .exit)) (now («arcs_told» .exit)) (now (list .exit)) ≡ routeTold (routeLeaves (net (now (tails .entry)) (now (heads .entry)) (now (costs .entry)) (now (order .entry))) (now (rank .entry)) (now (first .entry)) (now («row_heads» .entry)) (now (up .entry)) (now (down .entry)) from to (now (list .entry))) ⌝ }
+{
+    let answer = route(
+        tails,
+        heads,
+        costs,
+        order,
+        rank,
+        first,
+        row_heads,
+        up,
+        down,
+        Junction(from),
+        Junction(to),
+        list,
+    );
+    *place = answer.place() as u64;
+    *distance_told = answer.distance();
+    *arcs_told = answer.arcs() as u64;
     answer.number()
 }

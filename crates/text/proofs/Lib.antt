@@ -1,1 +1,3 @@
 pub mod ProgramHolds
+pub mod WordLaws
+pub mod LineLaws

@@ -1,3 +1,4 @@
 pub mod Bytes
 pub mod Program
 pub mod ProgramExamples
+pub mod ReadBack

@@ -3,11 +3,13 @@
 use griezmuld::build;
 use griezmuld::customise;
 use griezmuld::distance;
+use griezmuld::route;
 use libc::STDOUT_FILENO;
 use rules::BuildAnswer;
 use rules::CustomiseAnswer;
 use rules::DistanceAnswer;
 use rules::Junction;
+use rules::RouteAnswer;
 
 // A number of a list as a 64-bit one.
 fn long(x: u32) -> u64 {
@@ -280,6 +282,56 @@ fn n4_distances() {
     ask_n4(b"0 to 4:", 0, 4);
 }
 
+// One line for a route: its name, the answer, the list.
+fn show_route(name: &[u8], answer: RouteAnswer, list: &[u32]) {
+    tell(name, answer.number() as u64);
+    tell(b" at", answer.place() as u64);
+    tell(b", distance", answer.distance());
+    tell(b", arcs", answer.arcs() as u64);
+    show(b", route", list);
+    io::write_all(STDOUT_FILENO, b"\n");
+}
+
+// Drives on N4 with another cost of arc 2, by P2's lists.
+fn drive_n4(name: &[u8], costs: &[u32], from: u32, to: u32, list: &mut [u32]) {
+    let tails = [1u32, 0, 2, 3, 1];
+    let ends = [0u32, 2, 3, 1, 3];
+    let order = [0u32, 1, 2, 3];
+    let first = [0u32, 2, 4, 5, 5];
+    let heads = [1u32, 2, 2, 3, 3];
+    let up = [4294967295u32, 4, 7, 20, 2];
+    let down = [3u32, 4294967295, 4294967295, 6, 13];
+    let answer = route(
+        &tails,
+        &ends,
+        costs,
+        &order,
+        &order,
+        &first,
+        &heads,
+        &up,
+        &down,
+        Junction(from),
+        Junction(to),
+        list,
+    );
+    show_route(name, answer, list);
+}
+
+// P3 to P6; arc 2's cost set to 3 with nothing redone: "room 3 or 2 gives 13, room 1 gives 12"; "N4 as customised, room 2: 12".
+fn n4_routes() {
+    let costs = [3u32, 4, 2, 6, 20];
+    let changed = [3u32, 4, 3, 6, 20];
+    drive_n4(b"drive 1 to 3:", &costs, 1, 3, &mut [9; 4]);
+    drive_n4(b"drive 0 to 1:", &costs, 0, 1, &mut [9; 3]);
+    drive_n4(b"drive 2 to 0:", &costs, 2, 0, &mut [9; 3]);
+    drive_n4(b"drive 0 to 0:", &costs, 0, 0, &mut [9; 1]);
+    drive_n4(b"room 2:", &costs, 1, 3, &mut [9; 2]);
+    drive_n4(b"changed, room 3:", &changed, 1, 3, &mut [9; 3]);
+    drive_n4(b"changed, room 2:", &changed, 1, 3, &mut [9; 2]);
+    drive_n4(b"changed, room 1:", &changed, 1, 3, &mut [9; 1]);
+}
+
 fn main() {
     sizes();
     n4_build();
@@ -288,4 +340,5 @@ fn main() {
     costs();
     n4_costs(&mut [9; 6], &mut [9; 5]);
     n4_distances();
+    n4_routes();
 }

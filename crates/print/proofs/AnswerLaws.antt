@@ -1,0 +1,74 @@
+-- What the whole answer needs of the replies: each fits, all of them fit, and they follow one another. Assumes nothing.
+use Prim.Native.Nat.{ℕ, zero, suc, _+_, _*_, _-_, _≤_, _<_}
+use mathlib.Core.Path.{_≡_, refl, sym, ap, _∙_, subst}
+use mathlib.Core.Bool.{_&&_}
+use mathlib.Core.List.{List, [], _∷_, _++_, append-nil, append-assoc}
+use native.Mathlib.Omega.{arith}
+use native.Mathlib.Numerals.{add-one}
+use lib.Dec.{T, eqb, ltb}
+use lib.ListN.{length, getD, take, replicate, length-append, length-replicate, List·getD-append}
+use Rattle.rules.specs.declared.RouteAnswer.{RouteAnswer}
+use Rattle.rules.specs.declared.RouteAnswer.the-variants.{Drive, NoWalk, Refused}
+use Rattle.rules.specs.Costs.{closed}
+use Rattle.rules.specs.Replies.{routeReply}
+use Rattle.rules.specs.Net.{Net, arcs, tail, head, inForce}
+use Rattle.rules.specs.Route.{routeList}
+use Rattle.rules.specs.Calls.{RouteLeaves, routeLeft, routeLeaves}
+use Rattle.theory.specs.Demand3.{isWalk, SomeWalk}
+use Rattle.theory.proofs.Laws.{and-l, and-r, ltb-e}
+use Rattle.theory.proofs.AnyLists.{route-on-any-lists}
+use Rattle.text.specs.Program.{replyLine, replyLines, noughts}
+use Rattle.print.specs.Written.{ArcsShort, ReplyShort}
+
+-- the longest answer fits: a first line of 27 bytes and 64 replies of 1,400
+pub room-left : (i at : ℕ) → i < 64 → at ≤ 27 + 1400 * i → at + 1400 ≤ 98304
+room-left i at h g = omega arith
+
+-- ---- a reply of route is short
+
+-- the arcs of a walk are listed
+walk-listed : (N : Net) (from : ℕ) (way : List ℕ) (to : ℕ) → T (isWalk N from way to) → (i : ℕ) → i < length way → getD way i 0 < arcs N
+unfolding isWalk
+walk-listed N from [] to t i h = absurd (omega arith)
+walk-listed N from (a ∷ way) to t zero h =
+    ltb-e a (arcs N) (and-l (ltb a (arcs N)) (inForce N a) (and-l (ltb a (arcs N) && inForce N a) (eqb (tail N a) from) (and-l (ltb a (arcs N) && inForce N a && eqb (tail N a) from) (isWalk N (head N a) way to) t)))
+walk-listed N from (a ∷ way) to t (suc i) h =
+    walk-listed N (head N a) way to (and-r (ltb a (arcs N) && inForce N a && eqb (tail N a) from) (isWalk N (head N a) way to) t) i (omega arith)
+
+walk-short : (N : Net) (from to d k : ℕ) (route : List ℕ) → SomeWalk N from to d k route → length route ≡ 256 → arcs N ≤ 1024 → ArcsShort route k
+unfolding routeList
+walk-short N from to d k route w e m =
+    let r : length route ≡ length (w .way) + (length route - length (w .way)) =
+    ap length (w .listed) ∙ length-append (w .way) (replicate (length route - length (w .way)) closed) ∙ rw (length-replicate (length route - length (w .way)) closed) refl in
+    record {
+      few = omega (arith, w .count);
+      there = omega (arith, w .count);
+      low = λ i h.
+          let g : getD route i 0 ≡ getD (w .way) i 0 =
+          ap (λ l. getD l i 0) (w .listed) ∙ List·getD-append (w .way) (replicate (length route - length (w .way)) closed) 0 i (omega (arith, w .count)) in
+          omega (arith, g, walk-listed N from (w .way) to (w .walks) i (omega (arith, w .count)));
+    }
+
+-- what route answers, with 256 places and at most 1,024 arcs
+pub reply-short : (N : Net) (rank first rowHeads up down : List ℕ) (from to : ℕ) (before route : List ℕ) (r : RouteAnswer) → routeLeft route (routeReply r) ≡ routeLeaves N rank first rowHeads up down from to before → length route ≡ 256 → arcs N ≤ 1024 → ReplyShort r route
+reply-short N rank first rowHeads up down from to before route (Drive d k) e h m =
+    walk-short N from to d k route
+    (subst (λ (l : RouteLeaves). SomeWalk N from to d k (l .route)) (sym e)
+    (route-on-any-lists N rank first rowHeads up down from to before d k (sym (ap (λ (l : RouteLeaves). l .reply) e))))
+    h m
+reply-short N rank first rowHeads up down from to before route NoWalk e h m = tt
+reply-short N rank first rowHeads up down from to before route (Refused q) e h m = tt
+
+-- ---- the replies, one more at a time
+
+module _ (N : Net) (rank first rowHeads up down : List ℕ) where
+  replies-suc : (us vs : List ℕ) (i : ℕ) → i < length us → i < length vs → replyLines N rank first rowHeads up down (take (suc i) us) (take (suc i) vs) ≡ replyLines N rank first rowHeads up down (take i us) (take i vs) ++ replyLine (getD us i 0) (getD vs i 0) (routeLeaves N rank first rowHeads up down (getD us i 0) (getD vs i 0) (noughts 256))
+  unfolding replyLines
+  replies-suc [] vs i h g = absurd (omega arith)
+  replies-suc (u ∷ us) [] i h g = absurd (omega arith)
+  replies-suc (u ∷ us) (v ∷ vs) zero h g = append-nil (replyLine u v (routeLeaves N rank first rowHeads up down u v (noughts 256)))
+  replies-suc (u ∷ us) (v ∷ vs) (suc i) h g =
+      rw (replies-suc us vs i (omega arith) (omega arith), append-assoc (replyLine u v (routeLeaves N rank first rowHeads up down u v (noughts 256))) (replyLines N rank first rowHeads up down (take i us) (take i vs)) (replyLine (getD us i 0) (getD vs i 0) (routeLeaves N rank first rowHeads up down (getD us i 0) (getD vs i 0) (noughts 256)))) refl
+
+  pub replies-more : (us vs : List ℕ) (i : ℕ) → i < length us → i < length vs → replyLines N rank first rowHeads up down (take (i + 1) us) (take (i + 1) vs) ≡ replyLines N rank first rowHeads up down (take i us) (take i vs) ++ replyLine (getD us i 0) (getD vs i 0) (routeLeaves N rank first rowHeads up down (getD us i 0) (getD vs i 0) (noughts 256))
+  replies-more us vs i h g = rw (add-one i) (replies-suc us vs i h g)
