@@ -8,7 +8,7 @@ ghost use lib.ListN.{length};
 ghost use Rattle.rules.specs.Net.{net};
 ghost use Rattle.rules.specs.Hierarchy.{linked};
 ghost use Rattle.rules.specs.Refusals.{firstFailure, check1, check2, check3, check8};
-ghost use Rattle.rules.specs.Calls.{customiseChecks, distanceChecks, routeChecks};
+ghost use Rattle.rules.specs.Calls.{customiseChecks, distanceChecks};
 ghost use Rattle.lists.specs.Lent.{verdict};
 ghost use Rattle.checks.specs.Edges.{RowOf, lacksEdge, Arcs};
 use hierarchy::check_graph;
@@ -100,7 +100,7 @@ fn check_arcs(n: usize, tails: &[u32], heads: &[u32], costs: &[u32]) -> Check
     check_ends(n, tails, heads)
 }
 
-// All of customise's checks, in the paper's order.
+// All of customise's checks, in the paper's order; route's begin with them.
 pub fn check_customise(
     tails: &[u32],
     heads: &[u32],
@@ -149,38 +149,6 @@ pub fn check_distance(
         return Check::Fails(refusal);
     }
     if let Check::Fails(refusal) = check_cost_lists(wide(first[order.len()]), up, down) {
-        return Check::Fails(refusal);
-    }
-    check_question(order.len(), from, to)
-}
-
-// All of route's checks but 12 and 13: customise's, then 11.
-pub fn check_route(
-    tails: &[u32],
-    heads: &[u32],
-    costs: &[u32],
-    order: &[u32],
-    rank: &[u32],
-    first: &[u32],
-    row_heads: &[u32],
-    up: &[u32],
-    down: &[u32],
-    from: Junction,
-    to: Junction,
-) -> Check
-    ensures { λ r. ⌜ verdict r ≡ routeChecks (net (now (tails .entry)) (now (heads .entry)) (now (costs .entry)) (now (order .entry))) (now (rank .entry)) (now (first .entry)) (now («row_heads» .entry)) (now (up .entry)) (now (down .entry)) (from .0) (to .0) ⌝ }
-{
-    if let Check::Fails(refusal) = check_customise(
-        tails,
-        heads,
-        costs,
-        order,
-        rank,
-        first,
-        row_heads,
-        up,
-        down,
-    ) {
         return Check::Fails(refusal);
     }
     check_question(order.len(), from, to)

@@ -13,10 +13,10 @@ use Rattle.rules.specs.Net.{Net, net, size, rankList}
 use Rattle.rules.specs.Graph.{firstList, headsList, edgeCount}
 use Rattle.rules.specs.Refusals.{passes, fails, check1, check4, check6, check7, check10, check11}
 use Rattle.rules.specs.Hierarchy.{itsE}
-use Rattle.rules.specs.Calls.{buildLeft, buildChecks, buildLeaves, customiseLeft, customiseChecks, customiseLeaves, distanceLeft, distanceChecks, listedDistance, distanceLeaves, RouteLeaves, routeLeft, routeChecks, routeLeaves}
+use Rattle.rules.specs.Calls.{buildLeft, buildChecks, buildLeaves, customiseLeft, customiseChecks, customiseLeaves, distanceLeft, distanceChecks, listedDistance, distanceLeaves, routeLeft, routeChecks, routeLeaves}
 use Rattle.theory.proofs.Laws.{either, split}
 use Rattle.theory.proofs.Verdicts.{first-passes}
-use Rattle.theory.proofs.Accepted.{Accepted, accepted, passes1, passes7, passes10, passes11}
+use Rattle.theory.proofs.Accepted.{passes1, passes7, passes10, passes11}
 use Rattle.theory.proofs.Ranks.{Ordered, Inverse, ordered, inverse, inverse-list}
 use Rattle.theory.proofs.Rows.{Rows, rows, ranked}
 use Rattle.theory.proofs.BuildFits.{Buildable, buildable}
@@ -25,7 +25,6 @@ use Rattle.graph.specs.declared.Room.{Room}
 use Rattle.graph.specs.declared.Room.the-variants.{Next, Full}
 use Rattle.customise.specs.Steps.{CustomisedLists}
 use Rattle.distance.specs.Labelled.{Lists, count}
-use Rattle.unpack.specs.Driving.{routeFound}
 
 -- ---- build
 
@@ -165,29 +164,8 @@ module _ (order rank first rowHeads up down : List ℕ) (from to : ℕ) where
 
 -- ---- route
 
-module _ (N : Net) (rank first rowHeads up down : List ℕ) (from to : ℕ) (route₀ : List ℕ) where
-  pub route-refused : (k p : ℕ) → routeChecks N rank first rowHeads up down from to ≡ fails k p
-      → routeLeft route₀ (refused k p) ≡ routeLeaves N rank first rowHeads up down from to route₀
-  unfolding routeLeaves
-  route-refused k p e = rw e refl
-
-  -- what route's checks establish
-  pub record Driven : Type 0 where
-    pub roads : Accepted N rank first rowHeads up down
-    pub start : from < size N
-    pub target : to < size N
-
-  pub driven-asked : routeChecks N rank first rowHeads up down from to ≡ passes → Driven
-  unfolding routeChecks
-  driven-asked e =
-      let p = first-passes (customiseChecks N rank first rowHeads up down) (check11 (size N) from to ∷ []) e in
-      let q = first-passes (check11 (size N) from to) [] (p .1) in
-      let (s, t) = passes11 (size N) from to (q .0) in
-      record { roads = accepted N rank first rowHeads up down (p .0); start = s; target = t }
-
-  -- the route was looked for
-  pub route-told : (left : RouteLeaves) (s t : ℕ) → routeChecks N rank first rowHeads up down from to ≡ passes
-      → left ≡ routeFound N first rowHeads up down s t (length route₀) → s ≡ getD rank from 0 → t ≡ getD rank to 0
-      → left ≡ routeLeaves N rank first rowHeads up down from to route₀
-  unfolding routeLeaves routeFound
-  route-told left s t c e es et = rw (c, ← es, ← et) e
+-- route's checks begin with customise's
+pub route-refused : (N : Net) (rank first rowHeads up down : List ℕ) (from to : ℕ) (route : List ℕ) (k p : ℕ) → customiseChecks N rank first rowHeads up down ≡ fails k p
+    → routeLeft route (refused k p) ≡ routeLeaves N rank first rowHeads up down from to route
+unfolding routeLeaves routeChecks
+route-refused N rank first rowHeads up down from to route k p e = rw e refl

@@ -7,7 +7,6 @@ ghost use Rattle.rules.specs.Replies.{buildReply, customiseReply, distanceReply
 ghost use Rattle.rules.specs.Calls.{buildLeft, buildLeaves, customiseLeft, customiseLeaves, distanceLeft, distanceLeaves, routeLeft, routeLeaves};
 use checks::check_customise;
 use checks::check_distance;
-use checks::check_route;
 use customise::customise_costs;
 use distance::ask;
 use graph::Room;
@@ -23,7 +22,7 @@ use rules::DistanceAnswer;
 use rules::Junction;
 use rules::Refusal;
 use rules::RouteAnswer;
-use unpack::drive;
+use unpack::route_between;
 
 // Roads and order to the shortcut graph: rank, first and row_heads are filled, and E is told.
 pub fn build(
@@ -129,7 +128,20 @@ pub fn route<'a>(
 ) -> RouteAnswer
     ensures { λ r. ⌜ routeLeft (now (list .exit)) (routeReply r) ≡ routeLeaves (net (now (tails .entry)) (now (heads .entry)) (now (costs .entry)) (now (order .entry))) (now (rank .entry)) (now (first .entry)) (now («row_heads» .entry)) (now (up .entry)) (now (down .entry)) (from .0) (to .0) (now (list .entry)) ⌝ }
 {
-    if let Check::Fails(refusal) = check_route(
+    if let Check::Fails(refusal) = check_customise(
+        tails,
+        heads,
+        costs,
+        order,
+        rank,
+        first,
+        row_heads,
+        up,
+        down,
+    ) {
+        return RouteAnswer::Refused(refusal);
+    }
+    route_between(
         tails,
         heads,
         costs,
@@ -141,23 +153,6 @@ pub fn route<'a>(
         down,
         from,
         to,
-    ) {
-        return RouteAnswer::Refused(refusal);
-    }
-    let s = position_of(rank, from);
-    let t = position_of(rank, to);
-    drive(
-        tails,
-        heads,
-        costs,
-        order,
-        rank,
-        first,
-        row_heads,
-        up,
-        down,
-        s,
-        t,
         list,
     )
 }

@@ -118,10 +118,14 @@ module _ {N : Net} {rank first rowHeads up₀ down₀ up down : List ℕ} (S : S
   unfolding distanceChecks
   distance-passes from to h g = rw (P .c1, P .c4, P .c7, lists-pass, in-range-passes (size N) from to h g) refl
 
+  -- customise would accept the lists that it left
+  pub still-passes : customiseChecks N rank first rowHeads up down ≡ passes
+  unfolding customiseChecks
+  still-passes = rw (P .c1, P .c2, P .c3, P .c4, P .c7, P .c8, P .c9, lists-pass) refl
+
   route-passes : (from to : ℕ) → from < size N → to < size N → routeChecks N rank first rowHeads up down from to ≡ passes
-  unfolding routeChecks customiseChecks
-  route-passes from to h g =
-      rw (P .c1, P .c2, P .c3, P .c4, P .c7, P .c8, P .c9, lists-pass, in-range-passes (size N) from to h g) refl
+  unfolding routeChecks
+  route-passes from to h g = rw (still-passes, in-range-passes (size N) from to h g) refl
 
   -- ---- the distance
 

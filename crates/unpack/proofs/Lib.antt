@@ -1,3 +1,4 @@
+pub mod AskedLaws
 pub mod FillLaws
 pub mod TailLaws
 pub mod LowLaws

@@ -8,7 +8,8 @@ ghost use Rattle.rules.specs.declared.Direction.the-variants.{Up, Down};
 ghost use Rattle.rules.specs.Costs.{closed};
 ghost use Rattle.rules.specs.Replies.{routeReply};
 ghost use Rattle.rules.specs.Net.{net};
-ghost use Rattle.rules.specs.Calls.{routeLeft};
+ghost use Rattle.rules.specs.Refusals.{passes};
+ghost use Rattle.rules.specs.Calls.{routeLeft, customiseChecks, routeLeaves};
 ghost use Rattle.theory.proofs.Accepted.{Accepted};
 ghost use Rattle.theory.proofs.Rows.{Rows};
 ghost use Rattle.lists.specs.Lent.{foundIn};
@@ -18,13 +19,17 @@ ghost use Rattle.pieces.specs.Opening.{ran, put, Lows, ByTail, Ready};
 ghost use Rattle.unpack.specs.Driving.{Given, lowTurn, cameEdges, Leads, stairs, Climbs, Traced, wayOver, routeFound};
 use distance::climb;
 use distance::meet;
+use lists::Check;
+use lists::check_question;
 use lists::find_in_row;
+use lists::position_of;
 use pieces::Opened;
 use pieces::open_down;
 use pieces::open_up;
 use rules::Cost;
 use rules::Direction;
 use rules::Found;
+use rules::Junction;
 use rules::Position;
 use rules::Refusal;
 use rules::RouteAnswer;
@@ -304,7 +309,7 @@ fn drive_way(
 }
 
 // The route from s to t, written into the route list, and what route answers; 12 and 13 fill the list again.
-pub fn drive<'a>(
+fn drive<'a>(
     tails: &[u32],
     heads: &[u32],
     costs: &[u32],
@@ -383,4 +388,43 @@ pub fn drive<'a>(
             RouteAnswer::Refused(Refusal::PieceFitsNothing)
         }
     }
+}
+
+// Route over lists that customise accepts: 11, and then the drive.
+pub fn route_between<'a>(
+    tails: &[u32],
+    heads: &[u32],
+    costs: &[u32],
+    order: &[u32],
+    rank: &[u32],
+    first: &[u32],
+    row_heads: &[u32],
+    up: &'a [u32],
+    down: &'a [u32],
+    from: Junction,
+    to: Junction,
+    route: &mut [u32],
+) -> RouteAnswer
+    requires { ⌜ customiseChecks (net (now tails) (now heads) (now costs) (now order)) (now rank) (now first) (now «row_heads») (now up) (now down) ≡ passes ⌝ }
+    ensures { λ r. ⌜ routeLeft (now (route .exit)) (routeReply r) ≡ routeLeaves (net (now (tails .entry)) (now (heads .entry)) (now (costs .entry)) (now (order .entry))) (now (rank .entry)) (now (first .entry)) (now («row_heads» .entry)) (now (up .entry)) (now (down .entry)) (from .0) (to .0) (now (route .entry)) ⌝ }
+{
+    if let Check::Fails(refusal) = check_question(order.len(), from, to) {
+        return RouteAnswer::Refused(refusal);
+    }
+    let s = position_of(rank, from);
+    let t = position_of(rank, to);
+    drive(
+        tails,
+        heads,
+        costs,
+        order,
+        rank,
+        first,
+        row_heads,
+        up,
+        down,
+        s,
+        t,
+        route,
+    )
 }
