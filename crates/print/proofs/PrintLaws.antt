@@ -1,14 +1,14 @@
 -- Bytes written one after the other, and numbers in digits. Assumes nothing.
 use Prim.Native.Nat.{ℕ, zero, suc, _+_, _*_, _/_, _%_, _^_, _≤_, _<_}
-use mathlib.Core.Path.{_≡_, refl, ap, _∙_}
+use mathlib.Core.Path.{_≡_, refl, sym, ap, _∙_}
 use mathlib.Core.Bool.{Bool, true, false}
 use mathlib.Core.List.{List, [], _∷_, _++_, map, map-append, append-nil, append-assoc}
 use native.Mathlib.Omega.{arith}
 use native.Mathlib.Numerals.{add-one}
 use native.Mathlib.Nat.{pow-suc}
 use lib.Dec.{ltb}
-use lib.ListN.{length, getD, take, set, length-append, length-set}
-use lib.Seq.{take-all, take-suc, take-suc-set}
+use lib.ListN.{length, getD, take, drop, set, length-append, length-set}
+use lib.Seq.{take-all, take-suc, take-suc-set, drop-drop, drop-set-lt}
 use borrow.Author.Tests.{lt-ltb, le-ltb, ltb-false}
 use Rattle.text.specs.Bytes.{lf, space, decimalWithin, decimal}
 use Rattle.text.specs.Program.{spaced}
@@ -18,10 +18,15 @@ use Rattle.print.specs.Written.{Wrote, ArcsShort, arcsWritten, driveWrit
 
 -- nothing, and one byte
 pub wrote-none : (l : List ℕ) (at : ℕ) → Wrote l at [] l at
-wrote-none l at = record { says = rw append-nil refl; long = refl; behind = omega arith }
+wrote-none l at = record { says = rw append-nil refl; long = refl; behind = omega arith; rest = refl }
 
 pub wrote-byte : (l : List ℕ) (at b : ℕ) → at < length l → Wrote l at (b ∷ []) (set l at b) (at + 1)
-wrote-byte l at b h = record { says = rw add-one (take-suc-set l at b h); long = length-set l at b; behind = refl }
+wrote-byte l at b h = record {
+  says = rw add-one (take-suc-set l at b h);
+  long = length-set l at b;
+  behind = refl;
+  rest = drop-set-lt (at + 1) l at b (omega arith);
+}
 
 -- one after the other
 pub wrote-then : (l : List ℕ) (at : ℕ) (x m : List ℕ) (p : ℕ) (y n : List ℕ) (q : ℕ) → Wrote l at x m p → Wrote m p y n q → Wrote l at (x ++ y) n q
@@ -29,6 +34,9 @@ wrote-then l at x m p y n q a b = record {
   says = b .says ∙ rw (a .says, append-assoc (take at l) x y) refl;
   long = b .long ∙ a .long;
   behind = rw (length-append x y) (omega arith);
+  rest =
+      let e : q ≡ p + length y = b .behind in
+      b .rest ∙ (rw e (sym (drop-drop (length y) p m) ∙ ap (drop (length y)) (a .rest) ∙ drop-drop (length y) p l));
 }
 
 -- ---- digits

@@ -2,17 +2,18 @@
 use Prim.Native.Nat.{ℕ, suc, _+_, _≤_, _<_}
 use mathlib.Core.Path.{_≡_}
 use mathlib.Core.List.{List, [], _∷_, _++_, map}
-use lib.ListN.{length, getD, take}
+use lib.ListN.{length, getD, take, drop}
 use Rattle.rules.specs.declared.RouteAnswer.{RouteAnswer}
 use Rattle.rules.specs.declared.RouteAnswer.the-variants.{Drive, NoWalk, Refused}
 use Rattle.text.specs.Bytes.{lf}
 use Rattle.text.specs.Program.{spaced}
 
--- `bytes` were written at `at`: they follow what stood before that place, up to place `next`
+-- `bytes` were written at `at`: they follow what stood before that place, up to place `next`, and what stands from there on is as it was
 pub record Wrote (before : List ℕ) (at : ℕ) (bytes after : List ℕ) (next : ℕ) : Type 0 where
   pub says : take next after ≡ take at before ++ bytes
   pub long : length after ≡ length before
   pub behind : next ≡ at + length bytes
+  pub rest : drop next after ≡ drop next before
 
 -- the arcs of a route are few, and their numbers counted from 1 have at most four digits
 pub record ArcsShort (route : List ℕ) (arcs : ℕ) : Type 0 where
