@@ -7,6 +7,7 @@ use native.Mathlib.Omega.{arith}
 use native.Mathlib.Numerals.{add-one}
 use lib.Dec.{T, eqb, ltb}
 use lib.ListN.{length, getD, take, replicate, length-append, length-replicate, List·getD-append}
+use lib.Seq.{take-all}
 use Rattle.rules.specs.declared.RouteAnswer.{RouteAnswer}
 use Rattle.rules.specs.declared.RouteAnswer.the-variants.{Drive, NoWalk, Refused}
 use Rattle.rules.specs.Costs.{closed}
@@ -18,7 +19,8 @@ use Rattle.theory.specs.Demand3.{isWalk, SomeWalk}
 use Rattle.theory.proofs.Laws.{and-l, and-r, ltb-e}
 use Rattle.theory.proofs.AnyLists.{route-on-any-lists}
 use Rattle.text.specs.Program.{replyLine, replyLines, noughts}
-use Rattle.print.specs.Written.{ArcsShort, ReplyShort}
+use Rattle.print.specs.Written.{Wrote, ArcsShort, ReplyShort}
+use Rattle.print.proofs.PrintLaws.{wrote-none, wrote-then}
 
 -- the longest answer fits: a first line of 27 bytes and 64 replies of 1,400
 pub room-left : (i at : ℕ) → i < 64 → at ≤ 27 + 1400 * i → at + 1400 ≤ 98304
@@ -72,3 +74,39 @@ module _ (N : Net) (rank first rowHeads up down : List ℕ) where
 
   pub replies-more : (us vs : List ℕ) (i : ℕ) → i < length us → i < length vs → replyLines N rank first rowHeads up down (take (i + 1) us) (take (i + 1) vs) ≡ replyLines N rank first rowHeads up down (take i us) (take i vs) ++ replyLine (getD us i 0) (getD vs i 0) (routeLeaves N rank first rowHeads up down (getD us i 0) (getD vs i 0) (noughts 256))
   replies-more us vs i h g = rw (add-one i) (replies-suc us vs i h g)
+
+-- ---- the questions, one after the other
+
+module _ (N : Net) (rank first rowHeads up down : List ℕ) where
+  -- the reply that was written is the one that the definition gives
+  pub reply-wrote : (from to : ℕ) (before left : List ℕ) (at : ℕ) (r : RouteAnswer) (after : List ℕ) (next : ℕ)
+      → routeLeft left (routeReply r) ≡ routeLeaves N rank first rowHeads up down from to (noughts 256)
+      → Wrote before at (replyLine from to (routeLeft left (routeReply r))) after next
+      → Wrote before at (replyLine from to (routeLeaves N rank first rowHeads up down from to (noughts 256))) after next
+  reply-wrote from to before left at r after next e w = subst (λ l. Wrote before at (replyLine from to l) after next) e w
+
+  module _ (froms tos before : List ℕ) (start : ℕ) where
+    -- i questions have been answered
+    pub record Answering (output : List ℕ) (at i : ℕ) : Type 0 where
+      pub within : i ≤ length froms
+      pub wrote : Wrote before start (replyLines N rank first rowHeads up down (take i froms) (take i tos)) output at
+      pub few : at ≤ 27 + 1400 * i
+
+    pub answering-none : start ≤ 27 → Answering before start 0
+    unfolding replyLines
+    answering-none h = record { within = omega arith; wrote = wrote-none before start; few = omega arith }
+
+    pub answering-more : {output : List ℕ} {at i : ℕ} (output′ : List ℕ) (at′ : ℕ) → Answering output at i → length tos ≡ length froms → i < length froms
+        → Wrote output at (replyLine (getD froms i 0) (getD tos i 0) (routeLeaves N rank first rowHeads up down (getD froms i 0) (getD tos i 0) (noughts 256))) output′ at′
+        → at′ ≤ at + 1400 → Answering output′ at′ (i + 1)
+    answering-more {output} {at} {i} output′ at′ a e h w g =
+        record {
+          within = omega arith;
+          wrote = rw (replies-more N rank first rowHeads up down froms tos i h (omega arith)) (wrote-then before start _ output at _ output′ at′ (a .wrote) w);
+          few = omega (arith, a .few);
+        }
+
+    pub answering-all : {output : List ℕ} {at i : ℕ} → Answering output at i → length tos ≡ length froms → length froms ≤ i
+        → Wrote before start (replyLines N rank first rowHeads up down froms tos) output at
+    answering-all {output} {at} {i} a e h =
+        rw (take-all i froms h, take-all i tos (omega arith)) at (a .wrote)

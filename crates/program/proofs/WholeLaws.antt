@@ -1,0 +1,154 @@
+-- The whole answer, case by case: what was written is what the definition says. Assumes nothing.
+use Prim.Native.Nat.{ℕ, zero, suc, _+_, _≤_}
+use mathlib.Core.Path.{_≡_, refl, sym, ap, _∙_, subst}
+use mathlib.Core.List.{List, _∷_, _++_}
+use native.Mathlib.Omega.{arith}
+use lib.ListN.{length, take, drop, length-take, take-append-drop}
+use Rattle.rules.specs.declared.Refusal.{Refusal}
+use Rattle.rules.specs.declared.BuildAnswer.{BuildAnswer}
+use Rattle.rules.specs.declared.BuildAnswer.the-variants as build
+use Rattle.rules.specs.declared.CustomiseAnswer.{CustomiseAnswer}
+use Rattle.rules.specs.declared.CustomiseAnswer.the-variants as customise
+use Rattle.rules.specs.Replies.{refused, edges, done, refusalNumber, refusalPlace, buildReply, customiseReply}
+use Rattle.rules.specs.Net.{Net, net}
+use Rattle.rules.specs.Refusals.{passes}
+use Rattle.rules.specs.Calls.{BuildLeaves, buildLeft, buildLeaves, CustomiseLeaves, customiseLeft, customiseChecks, customiseLeaves}
+use Rattle.theory.proofs.Demand3Holds.{stands, still-passes}
+use Rattle.text.specs.Program.{edgesLine, refusedLine, replyLines, noughts, readAll, answer, answerRead, answerBuilt, answerCustomised}
+use Rattle.reader.specs.declared.Counts.{Counts}
+use Rattle.reader.specs.declared.Reading.{Reading}
+use Rattle.reader.specs.declared.Reading.the-variants.{Text, Breaks}
+use Rattle.reader.specs.ReadOn.{Rooms, CountsWithin, CountsFit, readingOf}
+use Rattle.print.specs.Written.{Wrote}
+use Rattle.print.proofs.PrintLaws.{wrote-then}
+use Rattle.program.specs.Answered.{AnswerLeaves, answerLeft, answerLeaves, Limits}
+
+-- ---- once the graph has been built
+
+module _ (N : Net) (b : BuildLeaves) (e : ℕ) (froms tos : List ℕ) (c : CustomiseLeaves) (before : List ℕ) where
+  pub customise-refused : (r : CustomiseAnswer) (q : Refusal) (up down : List ℕ) (k : ℕ) (after : List ℕ) (next : ℕ) → customiseLeft up down (customiseReply r) ≡ c
+      → r ≡ customise.Refused q → k ≡ refusalNumber q → Wrote before 0 (refusedLine k) after next
+      → Wrote before 0 (answerCustomised N b e froms tos c) after next
+  unfolding answerCustomised
+  customise-refused r q up down k after next f g h w =
+      let f′ : customiseLeft up down (refused (refusalNumber q) (refusalPlace q)) ≡ c = rw g at f in
+      subst (λ x. Wrote before 0 (answerCustomised N b e froms tos x) after next) f′ (rw h at w)
+
+  pub customise-done : (r : CustomiseAnswer) (up down middle : List ℕ) (at : ℕ) (after : List ℕ) (next : ℕ) → customiseLeft up down (customiseReply r) ≡ c
+      → r ≡ customise.Done → Wrote before 0 (edgesLine e) middle at
+      → Wrote middle at (replyLines N (b .rank) (b .first) (b .heads) up down froms tos) after next
+      → Wrote before 0 (answerCustomised N b e froms tos c) after next
+  unfolding answerCustomised
+  customise-done r up down middle at after next f g v w =
+      let f′ : customiseLeft up down done ≡ c = rw g at f in
+      subst (λ x. Wrote before 0 (answerCustomised N b e froms tos x) after next) f′
+      (wrote-then before 0 (edgesLine e) middle at (replyLines N (b .rank) (b .first) (b .heads) up down froms tos) after next v w)
+
+-- customise accepts the lists that it left
+pub done-passes : (N : Net) (rank first rowHeads up₀ down₀ : List ℕ) (r : CustomiseAnswer) (up down : List ℕ)
+    → customiseLeft up down (customiseReply r) ≡ customiseLeaves N rank first rowHeads up₀ down₀ → r ≡ customise.Done
+    → customiseChecks N rank first rowHeads up down ≡ passes
+done-passes N rank first rowHeads up₀ down₀ r up down f g =
+    let f′ : customiseLeft up down done ≡ customiseLeaves N rank first rowHeads up₀ down₀ = rw g at f in
+    still-passes (stands N rank first rowHeads up₀ down₀ up down (sym f′))
+
+-- ---- once the text has been read
+
+module _ (N : Net) (froms tos : List ℕ) (b : BuildLeaves) (before : List ℕ) where
+  pub build-refused : (r : BuildAnswer) (q : Refusal) (rank first rowHeads : List ℕ) (k : ℕ) (after : List ℕ) (next : ℕ) → buildLeft rank first rowHeads (buildReply r) ≡ b
+      → r ≡ build.Refused q → k ≡ refusalNumber q → Wrote before 0 (refusedLine k) after next
+      → Wrote before 0 (answerBuilt N froms tos b) after next
+  unfolding answerBuilt
+  build-refused r q rank first rowHeads k after next f g h w =
+      let f′ : buildLeft rank first rowHeads (refused (refusalNumber q) (refusalPlace q)) ≡ b = rw g at f in
+      subst (λ x. Wrote before 0 (answerBuilt N froms tos x) after next) f′ (rw h at w)
+
+  pub build-told : (r : BuildAnswer) (e : ℕ) (rank first rowHeads after : List ℕ) (next : ℕ) → buildLeft rank first rowHeads (buildReply r) ≡ b → r ≡ build.Edges e
+      → Wrote before 0 (answerCustomised N (buildLeft rank first rowHeads (edges e)) e froms tos (customiseLeaves N rank first rowHeads (noughts 4096) (noughts 4096))) after next
+      → Wrote before 0 (answerBuilt N froms tos b) after next
+  unfolding answerBuilt
+  build-told r e rank first rowHeads after next f g w =
+      let f′ : buildLeft rank first rowHeads (edges e) ≡ b = rw g at f in
+      subst (λ x. Wrote before 0 (answerBuilt N froms tos x) after next) f′ w
+
+-- ---- parts of lists
+
+-- the first n places of a list are n long
+pub take-long : (n : ℕ) (l : List ℕ) (m : ℕ) → n ≤ m → length l ≡ m → n ≡ length (take n l)
+take-long n l m h e = omega (arith, length-take n l)
+
+take-noughts : (n m : ℕ) → n ≤ m → take n (noughts m) ≡ noughts n
+take-noughts zero m h = refl
+take-noughts (suc n) zero h = absurd (omega arith)
+take-noughts (suc n) (suc m) h = ap (λ l. 0 ∷ l) (take-noughts n m (omega arith))
+
+-- the rooms of a graph of n junctions
+pub in-noughts : (N : Net) (tails heads order rank first rowHeads froms tos before after : List ℕ) (n next : ℕ) → n ≤ 256 → n ≡ length order
+    → rank ≡ take n (noughts 256) → first ≡ take (n + 1) (noughts 257) → rowHeads ≡ noughts 4096
+    → Wrote before 0 (answerBuilt N froms tos (buildLeaves tails heads order rank first rowHeads)) after next
+    → Wrote before 0 (answerBuilt N froms tos (buildLeaves tails heads order (noughts (length order)) (noughts (suc (length order))) (noughts 4096))) after next
+in-noughts N tails heads order rank first rowHeads froms tos before after n next h e er ef eh w =
+    let f : n + 1 ≡ suc n = omega arith in
+    let er′ : rank ≡ noughts (length order) = er ∙ take-noughts n 256 h ∙ ap (λ k. noughts k) e in
+    let ef′ : first ≡ noughts (suc (length order)) =
+    ef ∙ ap (λ k. take k (noughts 257)) f ∙ take-noughts (suc n) 257 (omega arith) ∙ ap (λ k. noughts (suc k)) e in
+    rw (er′, ef′, eh) at w
+
+-- ---- the whole
+
+-- an answer written at the start is all that is left
+pub answer-left : (input before after : List ℕ) (next : ℕ) → Wrote before 0 (answer input) after next → answerLeft next after ≡ answerLeaves input before
+unfolding answerLeaves
+answer-left input before after next w =
+    let e : next ≡ length (answer input) = omega (arith, w .behind) in
+    let f : after ≡ answer input ++ drop (length (answer input)) before =
+    sym (take-append-drop next after) ∙ rw (w .says, w .rest, e) refl in
+    rw (e, f) refl
+
+-- the promise allows one outcome
+pub one-answer : (input before after after′ : List ℕ) (next next′ : ℕ) → answerLeft next after ≡ answerLeaves input before → answerLeft next′ after′ ≡ answerLeaves input before
+    → (next ≡ next′) × (after ≡ after′)
+one-answer input before after after′ next next′ e f =
+    let g = e ∙ sym f in (ap (λ (l : AnswerLeaves). l .size) g, ap (λ (l : AnswerLeaves). l .output) g)
+
+-- ---- what the reader answered
+
+pub text-breaks : (input before : List ℕ) (r : Reading) (t h k o f g : List ℕ) (line number : ℕ) (after : List ℕ) (next : ℕ) → readingOf r t h k o f g ≡ readAll input
+    → r ≡ Breaks line → number ≡ 14 → Wrote before 0 (refusedLine number) after next → answerLeft next after ≡ answerLeaves input before
+unfolding answer answerRead
+text-breaks input before r t h k o f g line number after next s e n w =
+    let b : readAll input ≡ readingOf (Breaks line) t h k o f g = rw e at (sym s) in
+    let v : Wrote before 0 (refusedLine 14) after next = rw n at w in
+    answer-left input before after next (rw b v)
+
+pub within : (r : Reading) (c : Counts) → r ≡ Text c → CountsFit r → CountsWithin c
+within r c e fit = subst CountsFit e fit
+
+module _ (c : Counts) (t h k o f g : List ℕ) (fit : CountsWithin c) (rooms : Rooms t h k o f g) where
+  pub text-limits : Limits (take (c .arcs) t) (take (c .questions) f) (take (c .questions) g)
+  text-limits =
+      record {
+        arcs-fit = omega (arith, length-take (c .arcs) t, fit .arcs-fit);
+        questions-fit = omega (arith, length-take (c .questions) f, fit .questions-fit);
+        ends-there = omega (arith, length-take (c .questions) f, length-take (c .questions) g, rooms .froms-room, rooms .tos-room);
+      }
+
+  pub order-long : length (take (c .junctions) o) ≡ c .junctions
+  order-long = sym (take-long (c .junctions) o 256 (fit .junctions-fit) (rooms .order-room))
+
+  pub order-fits : length (take (c .junctions) o) ≤ 256
+  order-fits = omega (arith, order-long, fit .junctions-fit)
+
+  pub text-answered : (r : Reading) → r ≡ Text c → (input before after : List ℕ) (next : ℕ) → readingOf r t h k o f g ≡ readAll input
+      → Wrote before 0 (answerBuilt (net (take (c .arcs) t) (take (c .arcs) h) (take (c .arcs) k) (take (c .junctions) o)) (take (c .questions) f) (take (c .questions) g) (buildLeaves (take (c .arcs) t) (take (c .arcs) h) (take (c .junctions) o) (noughts (length (take (c .junctions) o))) (noughts (suc (length (take (c .junctions) o)))) (noughts 4096))) after next
+      → answerLeft next after ≡ answerLeaves input before
+  unfolding answer answerRead
+  text-answered r e input before after next s w =
+      let b : readAll input ≡ readingOf (Text c) t h k o f g = rw e at (sym s) in
+      let tails = take (c .arcs) t in
+      let heads = take (c .arcs) h in
+      let order = take (c .junctions) o in
+      let v =
+      subst (λ n. Wrote before 0 (answerBuilt (net tails heads (take (c .arcs) k) order) (take (c .questions) f) (take (c .questions) g) (buildLeaves tails heads order (noughts n) (noughts (suc n)) (noughts 4096))) after next)
+      order-long w in
+      answer-left input before after next (rw b v)
