@@ -7,6 +7,8 @@ use griezmuld::distance;
 use griezmuld::route;
 use libc::STDIN_FILENO;
 use libc::STDOUT_FILENO;
+use lines::show;
+use lines::tell;
 use rules::BuildAnswer;
 use rules::CustomiseAnswer;
 use rules::DistanceAnswer;
@@ -82,28 +84,10 @@ fn fill(list: &mut [u32]) -> bool {
     true
 }
 
-// A number of a list as a 64-bit one.
-fn long(x: u32) -> u64 {
-    x as u64
-}
-
-// A word, then the numbers of a list, each after a space, on a line.
-fn show(word: &[u8], list: &[u32]) {
-    io::write_all(STDOUT_FILENO, word);
-    let mut i = 0;
-    while i < list.len() {
-        io::write_all(STDOUT_FILENO, b" ");
-        io::print_decimal(STDOUT_FILENO, long(list[i]));
-        i += 1;
-    }
+// A word and the numbers of a list, on a line.
+fn show_line(word: &[u8], list: &[u32]) {
+    show(word, list);
     io::write_all(STDOUT_FILENO, b"\n");
-}
-
-// A word, then a number after a space.
-fn tell(word: &[u8], number: u64) {
-    io::write_all(STDOUT_FILENO, word);
-    io::write_all(STDOUT_FILENO, b" ");
-    io::print_decimal(STDOUT_FILENO, number);
 }
 
 // What build tells, on a line.
@@ -147,9 +131,9 @@ fn try_build(
     row_heads: &mut [u32],
 ) {
     tell_build(build(tails, heads, order, rank, first, row_heads));
-    show(b"rank", rank);
-    show(b"first", first);
-    show(b"heads", row_heads);
+    show_line(b"rank", rank);
+    show_line(b"first", first);
+    show_line(b"heads", row_heads);
 }
 
 // Customises, and shows what is told and left.
@@ -165,8 +149,8 @@ fn try_customise(
     down: &mut [u32],
 ) {
     tell_customise(customise(tails, heads, costs, order, rank, first, row_heads, up, down));
-    show(b"up", up);
-    show(b"down", down);
+    show_line(b"up", up);
+    show_line(b"down", down);
 }
 
 // Asks for a distance, and shows what is told.
@@ -212,7 +196,7 @@ fn try_route<'a>(
         to,
         list,
     ));
-    show(b":", list);
+    show_line(b":", list);
 }
 
 // The first part of a list, of the length wanted; all of it where it is not that long.
@@ -434,7 +418,7 @@ fn run_nets(count: u32) -> bool {
     let mut i = 0;
     while i < count {
         i += 1;
-        tell(b"net", long(i));
+        tell(b"net", i as u64);
         io::write_all(STDOUT_FILENO, b"\n");
         if !run_net() {
             return false;

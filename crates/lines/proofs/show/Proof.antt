@@ -2,14 +2,14 @@
 use borrow.Author.Needs.{needs}
 use Prim.Native.Nat.{_≤_, _-_}
 use lib.ListN.{length}
-use Rattle.nets.proofs.show.Statement.{statement}
-use Rattle.nets.proofs.show.Tie as tie
+use Rattle.lines.proofs.show.Statement.{statement}
+use Rattle.lines.proofs.show.Tie as tie
 
 abbrev Inv-loop : tie.InvT-loop
-Inv-loop word list i₀ t4 t5 i = i ≤ length list
+Inv-loop word list i₀ t4 i = i ≤ length list
 
 abbrev μ-loop : tie.MeasureT-loop
-μ-loop word list i₀ t4 t5 i = length list - i
+μ-loop word list i₀ t4 i = length list - i
 
 pub show-spec : {M : Type 1} → statement M
 show-spec =
@@ -28,6 +28,4 @@ show-spec =
     (λ c. search needs)
     (λ c. search needs)
     (λ c. search needs)
-    (λ c. search needs)
-    (λ c κs. search needs)
     (λ c. search needs))
