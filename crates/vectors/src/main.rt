@@ -5,34 +5,13 @@ use griezmuld::customise;
 use griezmuld::distance;
 use griezmuld::route;
 use libc::STDOUT_FILENO;
+use lines::show;
+use lines::tell;
 use rules::BuildAnswer;
 use rules::CustomiseAnswer;
 use rules::DistanceAnswer;
 use rules::Junction;
 use rules::RouteAnswer;
-
-// A number of a list as a 64-bit one.
-fn long(x: u32) -> u64 {
-    x as u64
-}
-
-// A word, then the numbers of a list, each after a space.
-fn show(word: &[u8], list: &[u32]) {
-    io::write_all(STDOUT_FILENO, word);
-    let mut i = 0;
-    while i < list.len() {
-        io::write_all(STDOUT_FILENO, b" ");
-        io::print_decimal(STDOUT_FILENO, long(list[i]));
-        i += 1;
-    }
-}
-
-// A word, then a number after a space.
-fn tell(word: &[u8], number: u64) {
-    io::write_all(STDOUT_FILENO, word);
-    io::write_all(STDOUT_FILENO, b" ");
-    io::print_decimal(STDOUT_FILENO, number);
-}
 
 // One line for a build: its name, the answer, the lists.
 fn show_build(name: &[u8], answer: BuildAnswer, rank: &[u32], first: &[u32], heads: &[u32]) {
