@@ -123,11 +123,7 @@ fn store(text: &mut String, case: &Case) -> Result<(), String> {
         costs: &case.costs,
         order: &case.order,
     };
-    let rows = Rows {
-        rank: &built.rank,
-        first: &built.first,
-        row_heads: &built.row_heads,
-    };
+    let rows = built.rows();
     let costs = calls::customise(map, rows, &vec![0; edges], &vec![0; edges]);
     if built.told.number != 0 || costs.told.number != 0 {
         return Err("a net is refused".to_string());

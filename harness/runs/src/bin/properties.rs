@@ -1,6 +1,7 @@
 //! The property runs: examples, limits, stored nets, thousands of random nets, garbage lists. Every call of the library
 //! and of plain Rust is held to the naive programs, and those to Dijkstra and Floyd-Warshall.
 
+use cases::shrink::shrink;
 use cases::Case;
 use nets::source::Source;
 use nets::{order, stored, Net};
@@ -73,11 +74,8 @@ fn main() {
 }
 
 fn options() -> Result<Options, String> {
-    let now = std::time::UNIX_EPOCH
-        .elapsed()
-        .map_err(|error| error.to_string())?;
     let mut options = Options {
-        seed: now.as_micros() as u64 % 1_000_000_000,
+        seed: Source::seed_of_the_time(),
         seconds: None,
         only: None,
         nets: stored::folder(),
@@ -216,8 +214,7 @@ impl Run {
         match caught(|| judge::judge(case)) {
             Ok(tally) => self.tally.add(&tally),
             Err(error) => {
-                let (case, error) =
-                    shrink::shrink(case.clone(), error, shrink::smaller_cases, fails);
+                let (case, error) = shrink(case.clone(), error, shrink::smaller_cases, fails);
                 self.fail(name, &error, &case.to_string());
             }
         }
@@ -237,7 +234,7 @@ impl Run {
             Ok(tally) => self.tally.add(&tally),
             Err(error) => {
                 let lists = handed.lists.clone();
-                let (lists, error) = shrink::shrink(lists, error, shrink::smaller_lists, fails);
+                let (lists, error) = shrink(lists, error, shrink::smaller_lists, fails);
                 self.fail(name, &error, &lists.to_string());
             }
         }
