@@ -245,6 +245,13 @@ fn any_other_line_gives_its_own_line() {
             4,
         );
     }
+    breaks("p ps 0 0\n", 1);
+    breaks("p 0 0\n", 1);
+    breaks("p sp 0\n", 1);
+}
+
+#[test]
+fn a_line_out_of_turn_gives_its_own_line() {
     breaks("a 1 2 7\np sp 2 1\n", 1);
     breaks("o 1\n", 1);
     breaks("q 1 1\n", 1);
@@ -254,9 +261,6 @@ fn any_other_line_gives_its_own_line() {
     breaks("p sp 2 1\na 1 2 7\no 1\nq 1 2\n", 4);
     breaks("p sp 2 1\na 1 2 7\no 1\na 1 2 7\n", 4);
     breaks("p sp 2 1\na 1 2 7\no 1\no 2\no 2\n", 5);
-    breaks("p ps 0 0\n", 1);
-    breaks("p 0 0\n", 1);
-    breaks("p sp 0\n", 1);
 }
 
 /// A star of 90 roads, its centre first: all 91 junctions are joined, 4,095 pairs; then so many roads apart from it.

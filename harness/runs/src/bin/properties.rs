@@ -2,6 +2,7 @@
 //! and of plain Rust is held to the naive programs, and those to Dijkstra and Floyd-Warshall.
 
 use cases::shrink::shrink;
+use cases::words::Words;
 use cases::Case;
 use nets::source::Source;
 use nets::{order, stored, Net};
@@ -81,15 +82,13 @@ fn options() -> Result<Options, String> {
         nets: stored::folder(),
         trace: false,
     };
-    let mut words = std::env::args().skip(1);
-    while let Some(word) = words.next() {
-        let mut value = || words.next().ok_or(format!("{word} needs a value"));
-        let number = |text: String| text.parse().map_err(|_| format!("{text} is no number"));
+    let mut words = Words::given();
+    while let Some(word) = words.option() {
         match word.as_str() {
-            "--seed" => options.seed = number(value()?)?,
-            "--seconds" => options.seconds = Some(number(value()?)?),
-            "--only" => options.only = Some(value()?),
-            "--nets" => options.nets = value()?.into(),
+            "--seed" => options.seed = words.number()?,
+            "--seconds" => options.seconds = Some(words.number()?),
+            "--only" => options.only = Some(words.value()?),
+            "--nets" => options.nets = words.value()?.into(),
             "--trace" => options.trace = true,
             "--bare" => runs::guarded::stand_bare(),
             "--need-library" if calls::LIBRARY => {}

@@ -1,6 +1,7 @@
 //! Holds the programs `route` and `lines` to document 01's section "The program": on the stored texts, on long ones, and
 //! on random ones by the independent program.
 
+use cases::words::Words;
 use nets::{source::Source, stored as nets_stored};
 use std::path::PathBuf;
 use std::process::exit;
@@ -23,15 +24,18 @@ program: holds the programs route and lines to the rules on many texts
 The variables ROUTE_PROGRAM and LINES_PROGRAM name the programs (default: target/bin/route and target/bin/lines).
 Exit status: 0 if nothing failed, else 1; 2 if there is nothing to run.";
 
-/// How many random texts there are by default, and when the last one begins at the latest, from the start.
+/// How many random texts there are by default, how many at the least, and when the others begin at the latest, from the
+/// start.
 const TEXTS: u64 = 1_500;
+const LEAST_TEXTS: u64 = 100;
 const LAST_CALL: Duration = Duration::from_secs(18);
 
 /// How many random texts each planted fault gets.
 const TEXTS_PLANTED: u64 = 150;
 
-/// How many failing texts are printed.
+/// How many failing texts are told, and how many lines of one are printed.
 const MOST_TOLD: usize = 12;
+const MOST_LINES: usize = 80;
 
 /// What is run.
 enum Mode {
@@ -71,15 +75,13 @@ fn options() -> Result<Options, String> {
         nets: nets_stored::folder(),
         mode: Mode::Programs,
     };
-    let mut words = std::env::args().skip(1);
-    while let Some(word) = words.next() {
-        let mut value = || words.next().ok_or(format!("{word} needs a value"));
-        let number = |text: String| text.parse().map_err(|_| format!("{text} is no number"));
+    let mut words = Words::given();
+    while let Some(word) = words.option() {
         match word.as_str() {
-            "--seed" => options.seed = number(value()?)?,
-            "--texts" => options.texts = Some(number(value()?)?),
-            "--only" => options.only = Some(number(value()?)?),
-            "--nets" => options.nets = value()?.into(),
+            "--seed" => options.seed = words.number()?,
+            "--texts" => options.texts = Some(words.number()?),
+            "--only" => options.only = Some(words.number()?),
+            "--nets" => options.nets = words.value()?.into(),
             "--standin" => options.mode = Mode::Standin,
             "--planted" => options.mode = Mode::Planted,
             other => return Err(format!("{other} is unknown")),
@@ -173,7 +175,8 @@ impl Random {
             (None, texts) => 0..texts.unwrap_or(TEXTS),
         };
         for number in numbers {
-            if options.texts.is_none() && start.elapsed() > LAST_CALL {
+            let late = number >= LEAST_TEXTS && start.elapsed() > LAST_CALL;
+            if late && options.texts.is_none() && options.only.is_none() {
                 println!("the time was up at text {number}");
                 break;
             }
@@ -197,8 +200,11 @@ impl Random {
 fn tell(wrong: &Wrong) {
     println!("FAILED {}: {}\non", wrong.name, wrong.said);
     let (lines, rest) = parted(&wrong.text);
-    for line in &lines {
+    for line in lines.iter().take(MOST_LINES) {
         println!("  {}", shown(line));
+    }
+    if lines.len() > MOST_LINES {
+        println!("  .. {} lines in all", lines.len());
     }
     if !rest.is_empty() {
         println!("  {} and no LF", shown(&rest));
