@@ -7,14 +7,14 @@ use griezmuld::distance;
 use griezmuld::route;
 use libc::STDIN_FILENO;
 use libc::STDOUT_FILENO;
-use lines::show;
-use lines::tell;
 use rules::BuildAnswer;
 use rules::CustomiseAnswer;
 use rules::DistanceAnswer;
 use rules::Junction;
 use rules::RouteAnswer;
 use rules::wide;
+use show::show;
+use show::tell;
 
 // The most that a net's lists can hold, and the most questions, in the order of a net's first line.
 const MOST: [u32; 11] = [1024, 1024, 1024, 1024, 256, 257, 258, 4096, 4096, 4096, 64];

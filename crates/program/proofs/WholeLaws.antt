@@ -3,7 +3,7 @@ use Prim.Native.Nat.{ℕ, zero, suc, _+_, _≤_}
 use mathlib.Core.Path.{_≡_, refl, sym, ap, _∙_, subst}
 use mathlib.Core.List.{List, _∷_, _++_}
 use native.Mathlib.Omega.{arith}
-use lib.ListN.{length, take, drop, length-take, take-append-drop}
+use lib.ListN.{length, take, drop, length-take, length-append, take-append-drop}
 use Rattle.rules.specs.declared.Refusal.{Refusal}
 use Rattle.rules.specs.declared.BuildAnswer.{BuildAnswer}
 use Rattle.rules.specs.declared.BuildAnswer.the-variants as build
@@ -110,6 +110,14 @@ pub one-answer : (input before after after′ : List ℕ) (next next′ : ℕ) �
     → (next ≡ next′) × (after ≡ after′)
 one-answer input before after after′ next next′ e f =
     let g = e ∙ sym f in (ap (λ (l : AnswerLeaves). l .size) g, ap (λ (l : AnswerLeaves). l .output) g)
+
+-- the answer stands in the output
+pub answer-fits : (input before after : List ℕ) (next : ℕ) → answerLeft next after ≡ answerLeaves input before → next ≤ length after
+unfolding answerLeaves
+answer-fits input before after next e =
+    let s : next ≡ length (answer input) = ap (λ (l : AnswerLeaves). l .size) e in
+    let o : after ≡ answer input ++ drop (length (answer input)) before = ap (λ (l : AnswerLeaves). l .output) e in
+    omega (arith, ap length o, length-append (answer input) (drop (length (answer input)) before))
 
 -- ---- what the reader answered
 

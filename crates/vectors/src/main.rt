@@ -5,13 +5,13 @@ use griezmuld::customise;
 use griezmuld::distance;
 use griezmuld::route;
 use libc::STDOUT_FILENO;
-use lines::show;
-use lines::tell;
 use rules::BuildAnswer;
 use rules::CustomiseAnswer;
 use rules::DistanceAnswer;
 use rules::Junction;
 use rules::RouteAnswer;
+use show::show;
+use show::tell;
 
 // One line for a build: its name, the answer, the lists.
 fn show_build(name: &[u8], answer: BuildAnswer, rank: &[u32], first: &[u32], heads: &[u32]) {

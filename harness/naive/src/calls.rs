@@ -72,6 +72,17 @@ pub struct BuildLeaves {
     pub row_heads: Vec<u32>,
 }
 
+impl BuildLeaves {
+    /// The lists, as the other calls get them.
+    pub fn rows(&self) -> Rows<'_> {
+        Rows {
+            rank: &self.rank,
+            first: &self.first,
+            row_heads: &self.row_heads,
+        }
+    }
+}
+
 /// "Build: 1, 2, 3, 4, 5, 6; it gets no costs."
 pub fn build(
     tails: &[u32],
@@ -391,11 +402,7 @@ mod tests {
             costs: &COSTS,
             order: &ORDER,
         };
-        let rows = Rows {
-            rank: &built.rank,
-            first: &built.first,
-            row_heads: &built.row_heads,
-        };
+        let rows = built.rows();
         let costs = customise(map, rows, &[7; 5], &[7; 6]);
         assert_eq!(costs.up, [CLOSED, 4, 7, 20, 2]);
         assert_eq!(costs.down, [3, CLOSED, CLOSED, 6, 13, CLOSED]);

@@ -9,8 +9,10 @@ pub mod customised;
 pub mod graph;
 pub mod hierarchy;
 pub mod labels;
+pub mod program;
 pub mod refusals;
 pub mod roads;
+pub mod text;
 pub mod unpacking;
 pub mod walks;
 

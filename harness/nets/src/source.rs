@@ -12,6 +12,12 @@ impl Source {
         Source { counter: seed }
     }
 
+    /// A seed that is another one at each time.
+    pub fn seed_of_the_time() -> u64 {
+        let now = std::time::UNIX_EPOCH.elapsed().unwrap_or_default();
+        now.as_micros() as u64 % 1_000_000_000
+    }
+
     /// A source of its own for each number, for one seed.
     pub fn nth(seed: u64, number: u64) -> Source {
         let mut of_seed = Source::new(seed);

@@ -1,6 +1,8 @@
 //! The property runs: examples, limits, stored nets, thousands of random nets, garbage lists. Every call of the library
 //! and of plain Rust is held to the naive programs, and those to Dijkstra and Floyd-Warshall.
 
+use cases::shrink::shrink;
+use cases::words::Words;
 use cases::Case;
 use nets::source::Source;
 use nets::{order, stored, Net};
@@ -73,25 +75,20 @@ fn main() {
 }
 
 fn options() -> Result<Options, String> {
-    let now = std::time::UNIX_EPOCH
-        .elapsed()
-        .map_err(|error| error.to_string())?;
     let mut options = Options {
-        seed: now.as_micros() as u64 % 1_000_000_000,
+        seed: Source::seed_of_the_time(),
         seconds: None,
         only: None,
         nets: stored::folder(),
         trace: false,
     };
-    let mut words = std::env::args().skip(1);
-    while let Some(word) = words.next() {
-        let mut value = || words.next().ok_or(format!("{word} needs a value"));
-        let number = |text: String| text.parse().map_err(|_| format!("{text} is no number"));
+    let mut words = Words::given();
+    while let Some(word) = words.option() {
         match word.as_str() {
-            "--seed" => options.seed = number(value()?)?,
-            "--seconds" => options.seconds = Some(number(value()?)?),
-            "--only" => options.only = Some(value()?),
-            "--nets" => options.nets = value()?.into(),
+            "--seed" => options.seed = words.number()?,
+            "--seconds" => options.seconds = Some(words.number()?),
+            "--only" => options.only = Some(words.value()?),
+            "--nets" => options.nets = words.value()?.into(),
             "--trace" => options.trace = true,
             "--bare" => runs::guarded::stand_bare(),
             "--need-library" if calls::LIBRARY => {}
@@ -216,8 +213,7 @@ impl Run {
         match caught(|| judge::judge(case)) {
             Ok(tally) => self.tally.add(&tally),
             Err(error) => {
-                let (case, error) =
-                    shrink::shrink(case.clone(), error, shrink::smaller_cases, fails);
+                let (case, error) = shrink(case.clone(), error, shrink::smaller_cases, fails);
                 self.fail(name, &error, &case.to_string());
             }
         }
@@ -237,7 +233,7 @@ impl Run {
             Ok(tally) => self.tally.add(&tally),
             Err(error) => {
                 let lists = handed.lists.clone();
-                let (lists, error) = shrink::shrink(lists, error, shrink::smaller_lists, fails);
+                let (lists, error) = shrink(lists, error, shrink::smaller_lists, fails);
                 self.fail(name, &error, &lists.to_string());
             }
         }

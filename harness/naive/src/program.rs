@@ -1,0 +1,87 @@
+//! "The program": what `route` prints for any input, and what the small program `lines` prints.
+
+use crate::calls::{build, customise, route, Roadmap, Told};
+use crate::text::{read, Text};
+use crate::NO_WALK;
+
+/// "Heads room is 4,096, route room 256"; the up and the down list have as many places as heads.
+const HEADS_ROOM: usize = 4_096;
+const ROUTE_ROOM: usize = 256;
+
+/// What the two programs print, every line ended by LF.
+#[derive(Clone, Debug, PartialEq, Eq)]
+pub struct Printed {
+    /// By `route`.
+    pub route: String,
+    /// By `lines`.
+    pub lines: String,
+}
+
+/// What the two programs print for an input. The whole text is read first: refusal 14 comes before any other.
+pub fn printed(input: &[u8]) -> Printed {
+    match read(input) {
+        Ok(text) => Printed {
+            route: answer(&text).unwrap_or_else(refused),
+            lines: "the text keeps the rules\n".to_string(),
+        },
+        Err(line) => Printed {
+            route: refused(14),
+            lines: format!("line {line}\n"),
+        },
+    }
+}
+
+/// "Any earlier refusal prints only `refused N`."
+fn refused(number: u32) -> String {
+    format!("refused {number}\n")
+}
+
+/// A refusal's number as an error.
+fn accepted(told: Told) -> Result<(), u32> {
+    match told.number {
+        0 => Ok(()),
+        number => Err(number),
+    }
+}
+
+/// "First line: E. Then per question", or the number that build or customise refuses with.
+fn answer(text: &Text) -> Result<String, u32> {
+    let n = text.order.len();
+    let (rank, first) = (vec![0; n], vec![0; n + 1]);
+    let room = [0; HEADS_ROOM];
+    let built = build(&text.tails, &text.heads, &text.order, &rank, &first, &room);
+    accepted(built.told)?;
+    let map = Roadmap {
+        tails: &text.tails,
+        heads: &text.heads,
+        costs: &text.costs,
+        order: &text.order,
+    };
+    let rows = built.rows();
+    let costs = customise(map, rows, &room, &room);
+    accepted(costs.told)?;
+    let mut answer = format!("edges {}\n", built.told.edges);
+    for &(from, to) in &text.questions {
+        let (up, down) = (&costs.up, &costs.down);
+        let leaves = route(map, rows, up, down, from, to, &[0; ROUTE_ROOM]);
+        let said = said(leaves.told, &leaves.route);
+        answer += &format!("{} {} {said}\n", from + 1, to + 1);
+    }
+    Ok(answer)
+}
+
+/// "from, to, distance, number of arcs, arc numbers counted from 1. No walk: `from to none`. A refused question:
+/// `from to refused N`." This is all that comes after from and to.
+fn said(told: Told, route: &[u32]) -> String {
+    if told.number != 0 {
+        return format!("refused {}", told.number);
+    }
+    if told.distance == NO_WALK {
+        return "none".to_string();
+    }
+    let arcs = route[..told.arcs as usize].iter();
+    let mut numbers = vec![told.distance, told.arcs];
+    numbers.extend(arcs.map(|&arc| u64::from(arc) + 1));
+    let words: Vec<String> = numbers.iter().map(u64::to_string).collect();
+    words.join(" ")
+}
