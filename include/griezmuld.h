@@ -76,7 +76,7 @@
  *                                 up, 1, down, 1, 1, 0, route, 1, &place, &distance, &arcs);
  *   // now refused is 0, distance is 150, arcs is 1, route[0] is 1
  *
- * A longer one is examples/c/example.c. Link with libtablet.a, which `rt staticlib tablet` writes to target/staticlib.
+ * A longer one is examples/c/example.c. Link with libtablet.a; `make library` puts it and this file into target/.
  */
 #ifndef GRIEZMULD_H
 #define GRIEZMULD_H
