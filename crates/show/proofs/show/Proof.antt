@@ -2,8 +2,8 @@
 use borrow.Author.Needs.{needs}
 use Prim.Native.Nat.{_≤_, _-_}
 use lib.ListN.{length}
-use Rattle.lines.proofs.show.Statement.{statement}
-use Rattle.lines.proofs.show.Tie as tie
+use Rattle.show.proofs.show.Statement.{statement}
+use Rattle.show.proofs.show.Tie as tie
 
 abbrev Inv-loop : tie.InvT-loop
 Inv-loop word list i₀ t4 i = i ≤ length list
