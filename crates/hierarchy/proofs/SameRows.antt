@@ -11,6 +11,7 @@ use borrow.Author.Tests.{eqb-true, eqb-false}
 use Rattle.rules.specs.Words.{each, has}
 use Rattle.rules.specs.Hierarchy.{rowAt, inverts, firstRises, headsReach, ascends, rowAscends, allIn, restInParent, isHierarchy}
 use Rattle.theory.proofs.Laws.{either, split, same-test, and-l, and-r, and-i, eqb-e, eqb-i, ltb-e, ltb-i, each-e, each-i, has-here, has-there, has-nil, has-cons}
+use Rattle.theory.proofs.Built.{allIn-i}
 use Rattle.theory.proofs.Ranks.{Ordered, inverse}
 use Rattle.theory.proofs.GraphRows.{ascends-e, ascends-i, ascends-has}
 use Rattle.hierarchy.specs.Tests.{seatAgrees, seatsAgree, rowsHold, inOrder, underParent, rowHolds}
@@ -121,12 +122,6 @@ all-e (x ∷ xs) row q t h =
     (λ e. subst (λ y. T (has row y)) e (and-l (has row x) (allIn xs row) t))
     (λ g. all-e xs row q (and-r (has row x) (allIn xs row) t) g)
 
-all-i : (qs row : List ℕ) → ((q : ℕ) → T (has qs q) → T (has row q)) → T (allIn qs row)
-unfolding allIn
-all-i [] row f = tt
-all-i (x ∷ xs) row f =
-    and-i (has row x) (allIn xs row) (f x (has-here x x xs refl)) (all-i xs row (λ q h. f q (has-there x q xs h)))
-
 -- ---- rows by the parent's row
 
 module _ (n : ℕ) (first heads : List ℕ) where
@@ -141,7 +136,7 @@ module _ (n : ℕ) (first heads : List ℕ) where
       let row = rowAt first heads c in
       let u : T (inOrder qs row) = and-r (ltb p c && ltb c n) (inOrder qs row) t in (
         ascends-i (suc p) n c qs low high (order-ascends (suc c) (suc c) n qs row (omega arith) u (above c low high)),
-        all-i qs row (λ q h. order-has qs row q u h),
+        allIn-i qs row (λ q h. order-has qs row q u h),
       )
 
   -- and the other way

@@ -17,43 +17,31 @@ use Rattle.theory.proofs.Laws.{either, split, true-false, holds-true, true-hold
 use Rattle.theory.proofs.Listings.{LastListed, none-listed, last-closed, last-open, between-road}
 use Rattle.sets.specs.Threads.{lastBelow, Threaded}
 use Rattle.pieces.specs.Opening.{Falls, ByTail, oneLess, arcOf, Readable}
-use Rattle.sets.proofs.ThreadLaws.{last-within, last-stands, last-passes, thread-on}
+use Rattle.sets.proofs.ThreadLaws.{last-hit, last-miss, last-none, last-within, last-stands, last-passes, thread-on}
 
 -- ---- the last that passes
 
-last-here : (f : ℕ → Bool) (k : ℕ) → f k ≡ true → lastBelow f (suc k) ≡ suc k
-unfolding lastBelow
-last-here f k e = rw e refl
-
-last-lower : (f : ℕ → Bool) (k : ℕ) → f k ≡ false → lastBelow f (suc k) ≡ lastBelow f k
-unfolding lastBelow
-last-lower f k e = rw e refl
-
-last-zero : (f : ℕ → Bool) → lastBelow f 0 ≡ 0
-unfolding lastBelow
-last-zero f = refl
-
 -- the last that passes a narrower test may be looked for from the last that passes the wider one
 last-skips : (f g : ℕ → Bool) → ((j : ℕ) → T (f j) → T (g j)) → (k : ℕ) → lastBelow f k ≡ lastBelow f (lastBelow g k)
-last-skips f g wider zero = rw (last-zero g) refl
+last-skips f g wider zero = rw (last-none g) refl
 last-skips f g wider (suc k) =
     either (split (g k))
-    (λ e. rw (last-here g k e) refl)
+    (λ e. rw (last-hit g k e) refl)
     (λ e.
     let no : f k ≡ false =
     either (split (f k)) (λ t. true-false (sym (holds-true (g k) (wider k (true-holds (f k) t))) ∙ e)) (λ t. t) in
-    rw (last-lower g k e) (last-lower f k no ∙ last-skips f g wider k))
+    rw (last-miss g k e) (last-miss f k no ∙ last-skips f g wider k))
 
 -- none after the last passes
 none-after : (f : ℕ → Bool) (m j : ℕ) → lastBelow f m ≤ j → j < m → T (f j) → ⊥
 none-after f zero j a b t = omega arith
 none-after f (suc m) j a b t =
     either (split (f m))
-    (λ e. omega (arith, last-here f m e))
+    (λ e. omega (arith, last-hit f m e))
     (λ e.
     either (split (eqb j m))
     (λ d. true-false (sym (holds-true (f j) t) ∙ ap f (eqb-true j m d) ∙ e))
-    (λ d. none-after f m j (omega (arith, last-lower f m e)) (omega (arith, eqb-false j m d)) t))
+    (λ d. none-after f m j (omega (arith, last-miss f m e)) (omega (arith, eqb-false j m d)) t))
 
 -- ---- the walk
 
@@ -93,7 +81,7 @@ module _ (heads at next : List ℕ) (u v i k : ℕ) (S₀ : Seeking heads at nex
       → At i ≡ oneLess (lastBelow (goes tails heads u v) (length heads))
   seek-found e tails B =
       let t : goes tails heads u v i ≡ true = rw (from-u tails B, eq-eqb (getD heads i 0) v e) refl in
-      ap oneLess (sym (S .still tails B ∙ last-here (goes tails heads u v) i t))
+      ap oneLess (sym (S .still tails B ∙ last-hit (goes tails heads u v) i t))
 
   -- past one with another head the thread goes on to the arc before it
   pub seek-more : (next-k : ℕ) → Falls (length heads) at next → u < 4096 → (getD heads i 0 ≡ v → ⊥) → next-k ≡ getD next i 0
@@ -105,7 +93,7 @@ module _ (heads at next : List ℕ) (u v i k : ℕ) (S₀ : Seeking heads at nex
         still = λ tails B.
             let f = goes tails heads u v in
             let t : f i ≡ false = rw (from-u tails B, ne-eqb (getD heads i 0) v n) refl in
-            S .still tails B ∙ last-lower f i t
+            S .still tails B ∙ last-miss f i t
             ∙ rw (on tails B) (last-skips f (λ j. eqb (getD tails j 0) u) (λ j t. and-l (eqb (getD tails j 0) u) (eqb (getD heads j 0) v) t) i);
       }
     where
@@ -118,7 +106,7 @@ pub seek-end : (heads at next : List ℕ) (u v k : ℕ) → Seeking heads at nex
     → Nothing ≡ oneLess (lastBelow (goes tails heads u v) (length heads))
 seek-end heads at next u v k S h tails B =
     let e : k ≡ 0 = omega arith in
-    ap oneLess (sym (S .still tails B ∙ ap (lastBelow (goes tails heads u v)) e ∙ last-zero (goes tails heads u v)))
+    ap oneLess (sym (S .still tails B ∙ ap (lastBelow (goes tails heads u v)) e ∙ last-none (goes tails heads u v)))
 
 -- ---- the arc in force
 

@@ -79,15 +79,16 @@ put-on (drives i ∷ es) fs at route free then e =
     let z : _≡_ {A = ℕ} 0 1 = cc in
     absurd (omega arith))
 
+-- what stops does not go on
+pub stops-short : (q : Opened) (at : ℕ) → Stops q → q ≡ Next at → ⊥
+stops-short (Next free) at s e = s
+stops-short Full at s e = let z : _≡_ {A = ℕ} 0 1 = cc in omega arith
+stops-short Misfit at s e = let z : _≡_ {A = ℕ} 0 1 = cc in omega arith
+
 -- where it was not, nothing follows
 pub put-stop : (es fs : List Event) (at : ℕ) (route : List ℕ) (answer : Opened) (then : List ℕ) → Stops answer → ran answer then ≡ put es at route
     → ran answer then ≡ put (es ++ fs) at route
-put-stop [] fs at route answer then s e = absurd (never answer s (ap (λ r. r .answer) (e ∙ put-nil at route)))
-  where
-    never : (q : Opened) → Stops q → q ≡ Next at → ⊥
-    never (Next free) s e = s
-    never Full s e = let z : _≡_ {A = ℕ} 0 1 = cc in omega arith
-    never Misfit s e = let z : _≡_ {A = ℕ} 0 1 = cc in omega arith
+put-stop [] fs at route answer then s e = absurd (stops-short answer at s (ap (λ r. r .answer) (e ∙ put-nil at route)))
 put-stop (misfits ∷ es) fs at route answer then s e = e ∙ put-misfit es at route ∙ sym (put-misfit (es ++ fs) at route)
 put-stop (drives i ∷ es) fs at route answer then s e =
     either (split (ltb at (length route)))

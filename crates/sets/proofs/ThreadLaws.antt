@@ -17,17 +17,17 @@ use Rattle.sets.specs.Threads.{lastBelow, Threaded, downward}
 -- ---- the last that passes
 
 -- where the number just below passes it is the last
-last-hit : (f : ℕ → Bool) (k : ℕ) → f k ≡ true → lastBelow f (suc k) ≡ suc k
+pub last-hit : (f : ℕ → Bool) (k : ℕ) → f k ≡ true → lastBelow f (suc k) ≡ suc k
 unfolding lastBelow
 last-hit f k e = rw e refl
 
 -- where it does not, it is passed over
-last-miss : (f : ℕ → Bool) (k : ℕ) → f k ≡ false → lastBelow f (suc k) ≡ lastBelow f k
+pub last-miss : (f : ℕ → Bool) (k : ℕ) → f k ≡ false → lastBelow f (suc k) ≡ lastBelow f k
 unfolding lastBelow
 last-miss f k e = rw e refl
 
 -- below 0 there is none
-last-none : (f : ℕ → Bool) → lastBelow f 0 ≡ 0
+pub last-none : (f : ℕ → Bool) → lastBelow f 0 ≡ 0
 unfolding lastBelow
 last-none f = refl
 

@@ -8,14 +8,14 @@ use mathlib.Core.List.{List, [], _∷_}
 use native.Mathlib.Omega.{arith}
 use lib.Dec.{T, eqb, ltb}
 use lib.ListN.{length, getD, replicate}
-use borrow.Author.Tests.{eqb-true, eqb-false, lt-ltb, le-ltb}
+use borrow.Author.Tests.{eqb-true, eqb-false, le-ltb}
 use Rattle.rules.specs.Costs.{closed, none}
 use Rattle.rules.specs.declared.Direction.{Direction}
 use Rattle.rules.specs.declared.Direction.the-variants.{Up, Down}
 use Rattle.rules.specs.Words.{least}
 use Rattle.rules.specs.Replies.{Reply, refused, drive, noWalk}
 use Rattle.rules.specs.Net.{Net, size, junction, arcBetween, roadBetween}
-use Rattle.rules.specs.Hierarchy.{linked, held, place, rowOf, along, itsE}
+use Rattle.rules.specs.Hierarchy.{linked, held, rowOf, along, itsE}
 use Rattle.rules.specs.Customised.{over, costList}
 use Rattle.rules.specs.Distance.{label, distance}
 use Rattle.rules.specs.Route.{Event, met, trouble, driven, routeList}
@@ -27,7 +27,8 @@ use Rattle.theory.proofs.Verdicts.{first-passes}
 use Rattle.theory.proofs.CostLaws.{customised-is, customised-only, over-same}
 use Rattle.theory.proofs.LabelLaws.{distance-top}
 use Rattle.theory.proofs.RouteLaws.{no-trouble, met-drive}
-use Rattle.theory.proofs.Rows.{Rows, InRow, linked-turn, linked-i, in-heads, place-is}
+use Rattle.theory.proofs.Rows.{Rows, InRow, linked-turn, linked-i, in-heads}
+use Rattle.theory.proofs.HeldAt.{held-up, held-down}
 use Rattle.theory.proofs.HeldCosts.{list-of, held-list}
 use Rattle.theory.proofs.Accepted.{Accepted, accepted, passes11}
 use Rattle.theory.proofs.Walks.{drive-walk}
@@ -113,20 +114,6 @@ pub record Satisfies (N : Net) (first rowHeads up down : List ℕ) : Type 0 wher
   pub up-past : (k : ℕ) → itsE (N .order) first ≤ k → k < length up → getD up k 0 ≡ closed
   pub down-past : (k : ℕ) → itsE (N .order) first ≤ k → k < length down → getD down k 0 ≡ closed
 
--- the cost held at a place, as the definition reads it
-getD-any : (l : List ℕ) (k a b : ℕ) → k < length l → getD l k a ≡ getD l k b
-getD-any [] k a b h = absurd (omega arith)
-getD-any (x ∷ l) zero a b h = refl
-getD-any (x ∷ l) (suc k) a b h = getD-any l k a b (omega arith)
-
-held-up : (first heads up down : List ℕ) (p y k : ℕ) → p < y → place first heads p y ≡ k → k < length up → getD up k 0 ≡ held first heads up down p y
-unfolding held
-held-up first heads up down p y k h e l = rw (lt-ltb p y h, e) (getD-any up k 0 closed l)
-
-held-down : (first heads up down : List ℕ) (p y k : ℕ) → p < y → place first heads p y ≡ k → k < length down → getD down k 0 ≡ held first heads up down y p
-unfolding held
-held-down first heads up down p y k h e l = rw (le-ltb y p (omega arith), e) (getD-any down k 0 closed l)
-
 list-past : (n : ℕ) (first heads : List ℕ) (f : ℕ → ℕ → ℕ) (d : Direction) (room k : ℕ) → getD first n 0 ≤ k → k < length (costList n first heads f d room)
     → getD (costList n first heads f d room) k 0 ≡ closed
 unfolding costList
@@ -152,13 +139,13 @@ satisfied-once N rank first rowHeads up down A S =
           (λ p k l r.
           let y = getD rowHeads k 0 in
           let j = linked-i R p k y l r refl in
-          held-up first rowHeads up down p y k (R .above p k l r) (place-is R p k y l r refl) (long p k up l r (A .up-long)) ∙ is p y j)
+          held-up R up down p k l r (long p k up l r (A .up-long)) ∙ is p y j)
           (S .up-past),
       list-of R f Down (length down) down refl
           (λ p k l r.
           let y = getD rowHeads k 0 in
           let j = linked-i R p k y l r refl in
-          held-down first rowHeads up down p y k (R .above p k l r) (place-is R p k y l r refl) (long p k down l r (A .down-long))
+          held-down R up down p k l r (long p k down l r (A .down-long))
           ∙ is y p (linked-turn first rowHeads p y j))
           (S .down-past),
     )

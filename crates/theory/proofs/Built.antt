@@ -21,7 +21,7 @@ use Rattle.theory.proofs.Game.{two-i, arc-i, joined-two, joined-arc, jo
 use Rattle.theory.proofs.GraphRows.{ascends-e, ascends-has, parentOf, row-e, row-i, row-ascends, parent-rest}
 
 -- each entry stands in the row, if it does one by one
-allIn-i : (qs row : List ℕ) → ((q : ℕ) → T (has qs q) → T (has row q)) → T (allIn qs row)
+pub allIn-i : (qs row : List ℕ) → ((q : ℕ) → T (has qs q) → T (has row q)) → T (allIn qs row)
 unfolding allIn
 allIn-i [] row h = tt
 allIn-i (q ∷ qs) row h =

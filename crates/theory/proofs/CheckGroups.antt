@@ -6,15 +6,12 @@ use lib.ListN.{length}
 use Rattle.rules.specs.Net.{Net, size}
 use Rattle.rules.specs.Hierarchy.{itsE}
 use Rattle.rules.specs.Refusals.{Verdict, passes, fails, firstFailure, check1, check2, check3, check4, check7, check8, check9, check10, check11}
+use Rattle.theory.proofs.Verdicts.{alone}
 use Rattle.rules.specs.Calls.{customiseChecks, distanceChecks}
 
 -- what the last check says is what is left
 pub first-last : {w v : Verdict} → w ≡ v → w ≡ firstFailure (v ∷ [])
 first-last {v} e = e ∙ alone v
-  where
-    alone : (v : Verdict) → v ≡ firstFailure (v ∷ [])
-    alone passes = refl
-    alone (fails k p) = refl
 
 -- the first failure of checks is that of the first few taken together and the rest
 first-group : (vs ws : List Verdict) → firstFailure (vs ++ ws) ≡ firstFailure (firstFailure vs ∷ ws)

@@ -19,7 +19,7 @@ use Rattle.theory.proofs.Laws.{either, split}
 use Rattle.pieces.specs.declared.Opened.{Opened}
 use Rattle.pieces.specs.declared.Opened.the-variants.{Next, Full, Misfit}
 use Rattle.pieces.specs.Opening.{ran, put}
-use Rattle.pieces.proofs.PutLaws.{Stops, put-nil, put-misfit, put-more, put-full}
+use Rattle.pieces.proofs.PutLaws.{Stops, stops-short, put-nil, put-misfit, put-more, put-full}
 use Rattle.unpack.specs.Driving.{routeFound}
 
 -- ---- events written to the end, or not
@@ -89,12 +89,7 @@ troubleOf Misfit = 13
 pub put-trouble : (es : List Event) (at : ℕ) (route : List ℕ) (answer : Opened) (then : List ℕ) → at ≤ length route → Stops answer
     → ran answer then ≡ put es at route → (trouble (length route - at) es ≡ troubleOf answer) × (length then ≡ length route)
 unfolding trouble
-put-trouble [] at route answer then h s e = absurd (never answer s (ap (λ r. r .answer) (e ∙ put-nil at route)))
-  where
-    never : (q : Opened) → Stops q → q ≡ Next at → ⊥
-    never (Next free) s e = s
-    never Full s e = let z : _≡_ {A = ℕ} 0 1 = cc in omega arith
-    never Misfit s e = let z : _≡_ {A = ℕ} 0 1 = cc in omega arith
+put-trouble [] at route answer then h s e = absurd (stops-short answer at s (ap (λ r. r .answer) (e ∙ put-nil at route)))
 put-trouble (misfits ∷ es) at route answer then h s e =
     let g = e ∙ put-misfit es at route in
     let q : answer ≡ Misfit = ap (λ r. r .answer) g in
