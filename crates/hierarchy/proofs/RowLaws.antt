@@ -1,6 +1,7 @@
 -- What the code that tests ranks and rows leans on: the state of each loop, and a law for each way that it goes. Assumes nothing.
 use Prim.Native.Nat.{ℕ, zero, suc, _+_, _-_, _≤_, _<_}
 use mathlib.Core.Path.{_≡_, refl, sym, ap, _∙_, subst}
+use mathlib.Core.Logic.{_⊎_, inl, inr}
 use mathlib.Core.Bool.{Bool, true, false, _&&_, and-true, and-false}
 use mathlib.Core.List.{List, [], _∷_}
 use native.Mathlib.Omega.{arith}
@@ -139,6 +140,40 @@ module _ {h : List ℕ} {k end j stop most at gap : ℕ} (s : Left h k end j sto
     pub left-over : (getD h (at + gap) 0 ≡ getD h at 0 → ⊥) → gap ≡ most → false ≡ inOrder (slice k end h) (slice j stop h)
     left-over n e =
         part-short h at end (suc (at + gap)) stop (omega (arith, s .most-is)) stops (omega (arith, s .most-is)) ∙ sym (passed n)
+
+-- the entries before `at` are the same, or some are not
+pub record Compared (h : List ℕ) (k end gap at : ℕ) (same : Bool) : Type 0 where
+  pub within : at ≤ end
+  pub so-far : ((same ≡ true) × Left h k end (k + gap) (end + gap) gap at gap)
+      ⊎ ((same ≡ false) × (false ≡ inOrder (slice k end h) (slice (k + gap) (end + gap) h)))
+
+-- none yet
+pub compared-start : (h : List ℕ) (k end gap : ℕ) → k ≤ end → Compared h k end gap k true
+compared-start h k end gap l =
+    record { within = l; so-far = inl (refl, record { within = l; enough = omega arith; most-is = refl; same = refl }) }
+
+module _ {h : List ℕ} {k end gap at : ℕ} {same : Bool} (c : Compared h k end gap at same) (stops : end + gap ≤ length h) where
+  -- two that are the same
+  pub compared-same : at < end → getD h (at + gap) 0 ≡ getD h at 0 → Compared h k end gap (at + 1) same
+  compared-same l e =
+      record { within = omega arith; so-far = either (c .so-far) (λ s. inl (s .0, left-hit (s .1) stops l e)) (λ s. inr s) }
+
+  -- two that differ
+  pub compared-other : at < end → (getD h (at + gap) 0 ≡ getD h at 0 → ⊥) → Compared h k end gap (at + 1) false
+  compared-other l n =
+      record { within = omega arith; so-far = inr (refl, either (c .so-far) (λ s. left-over (s .1) stops l n refl) (λ s. s .1)) }
+
+  -- all compared
+  pub compared-all : end ≤ at → same ≡ inOrder (slice k end h) (slice (k + gap) (end + gap) h)
+  compared-all l = either (c .so-far) (λ s. s .0 ∙ left-all (s .1) stops l) (λ s. s .0 ∙ s .1)
+
+-- rows of one length, by their ends
+pub same-rows-are : (h : List ℕ) (k end j stop most gap : ℕ) (r : Bool) → k ≤ end → end ≤ j → j ≤ stop → most ≡ stop - end → gap ≡ j - k → gap ≡ most
+    → r ≡ inOrder (slice k end h) (slice (k + gap) (end + gap) h) → r ≡ inOrder (slice k end h) (slice j stop h)
+same-rows-are h k end j stop most gap r a b c d e f g =
+    let x : k + gap ≡ j = omega arith in
+    let y : end + gap ≡ stop = omega arith in
+    g ∙ rw (x, y) refl
 
 -- ---- one row
 
