@@ -9,7 +9,7 @@ use borrow.Author.Tests.{eqb-true, eqb-false, ltb-true, ltb-false}
 use Rattle.theory.proofs.Laws.{either, split}
 use Rattle.theory.proofs.Rows.{InRow, Rows, in-heads, rises}
 use Rattle.lists.proofs.ListLaws.{Placed}
-use Rattle.customise.specs.Steps.{Kept, count, edgesOf, Corner, Lowered, Room, Beside, Onward, Turned, Behind}
+use Rattle.customise.specs.Steps.{Kept, count, edgesOf, Ahead, Corner, Lowered, Room, Beside, Onward, Turned, Behind}
 use Rattle.customise.proofs.PlaceLaws.{stored, kept-none, kept-store, kept-on, row-end, in-row-i}
 use Rattle.customise.proofs.TurnLaws.{turning-start, turning-step, turning-next, turning-end}
 
@@ -41,17 +41,36 @@ module _ {first heads : List ℕ} (R : Rows (count first) first heads) (z i : �
             (λ e. omega (arith, R .climb x q k (R .below z i zn ri) r rk (omega (arith, eqb-false q k e)), p .there));
       }
 
-  -- what one triangle asks: the edge between the two neighbours is ahead
-  corner : {ups downs : ℕ} (j from : ℕ) → edgesOf first ≤ ups → edgesOf first ≤ downs → InRow first z j → i < j → Behind first heads z i j from
-      → Corner heads ups downs i j from (getD first (getD heads i 0 + 1) 0)
-  corner j from lu ld rj ij B =
+  -- the neighbour's row ends where the edges do, or before
+  row-fits : getD first (getD heads i 0 + 1) 0 ≤ edgesOf first
+  row-fits =
       let x = getD heads i 0 in
-      let xn : x < count first = R .below z i zn ri in
+      omega (arith, row-end first x, rises R (suc x) (count first) (R .below z i zn ri) (omega arith))
+
+  -- the edge between the two neighbours is ahead
+  third-ahead : (j from : ℕ) → InRow first z j → i < j → Behind first heads z i j from → Ahead heads from (getD first (getD heads i 0 + 1) 0) (getD heads j 0)
+  third-ahead j from rj ij B =
+      let x = getD heads i 0 in
       let (k, rk, ek) = R .third z i j zn ri rj ij in
-      let end : getD first (x + 1) 0 ≤ edgesOf first = omega (arith, row-end first x, rises R (suc x) (count first) xn (omega arith)) in
+      record {
+        reach = omega (arith, row-fits, R .top);
+        spot = k;
+        placed = record {
+          low = either (split (ltb k from)) (λ e. absurd (omega (arith, B .past k j rk (ltb-true k from e) rj (omega arith)))) (λ e. ltb-false k from e);
+          high = omega (arith, rk .high, row-end first x);
+          there = ek;
+        };
+      }
+
+  -- what one triangle asks
+  corner : {ups downs : ℕ} (j from : ℕ) → edgesOf first ≤ ups → edgesOf first ≤ downs → InRow first z j → i < j → Behind first heads z i j from
+      → Corner heads ups downs i j from
+  corner j from lu ld rj ij B =
+      let end = row-fits in
       let hi = in-heads R z i zn ri in
       let hj = in-heads R z j zn rj in
       record {
+        to = getD first (getD heads i 0 + 1) 0;
         up-long = omega arith;
         down-long = omega arith;
         up-i = omega (arith, hi .0);
@@ -59,25 +78,17 @@ module _ {first heads : List ℕ} (R : Rows (count first) first heads) (z i : �
         up-j = omega (arith, hj .0);
         down-j = omega (arith, hj .0);
         heads-j = hj .1;
-        ahead = record {
-          reach = omega (arith, R .top);
-          spot = k;
-          placed = record {
-            low = either (split (ltb k from)) (λ e. absurd (omega (arith, B .past k j rk (ltb-true k from e) rj (omega arith)))) (λ e. ltb-false k from e);
-            high = omega (arith, rk .high, row-end first x);
-            there = ek;
-          };
-        };
+        ahead = third-ahead j from rj ij B;
       }
 
   -- one triangle more
   onward-edge : {up₀ down₀ up down up′ down′ : List ℕ} {i₀ j₀ : ℕ} (j from k : ℕ) → edgesOf first ≤ length up → edgesOf first ≤ length down
       → InRow first z j → i < j → Behind first heads z i j from
-      → Lowered heads i j from (getD first (getD heads i 0 + 1) 0) k up down up′ down′
+      → Lowered heads i j from k up down up′ down′
       → Onward first heads z i₀ j₀ up₀ down₀ i j up down → Onward first heads z i₀ j₀ up₀ down₀ i (j + 1) up′ down′
   onward-edge {up₀} {down₀} {up} {down} {up′} {down′} j from k lu ld rj ij B L o =
       let x = getD heads i 0 in
-      let p = L .placed in
+      let p = L .placed _ (third-ahead j from rj ij B) in
       let rk : InRow first x k = in-row-i first x k (omega (arith, B .low, p .low)) (p .high) in
       let kE : k < edgesOf first = in-heads R x k (R .below z i zn ri) rk .0 in
       let su = stored up up′ k _ (L .up-is) (omega arith) in
@@ -118,10 +129,9 @@ module _ {first heads : List ℕ} where
 
 -- ---- the triangles of one neighbour
 
--- the neighbour at place i has been looked at with those at the places before j; `end` and `to` end the two rows
-pub record Lowering (first heads : List ℕ) (z i end to : ℕ) (up₀ down₀ up down : List ℕ) (from j : ℕ) : Type 0 where
+-- the neighbour at place i has been looked at with those at the places before j; `end` ends z's row
+pub record Lowering (first heads : List ℕ) (z i end : ℕ) (up₀ down₀ up down : List ℕ) (from j : ℕ) : Type 0 where
   pub end-is : end ≡ getD first (z + 1) 0
-  pub to-is : to ≡ getD first (getD heads i 0 + 1) 0
   pub later : i < j
   pub behind : Behind first heads z i j from
   pub onward : Onward first heads z i (i + 1) up₀ down₀ i j up down
@@ -138,18 +148,17 @@ beside {z = z} i M zn ri =
 
 module _ {first heads up₀ down₀ : List ℕ} {z i : ℕ} (S : Beside first heads (length up₀) (length down₀) z i) where
   -- x is the neighbour, and the search starts at the start of its row
-  pub lowering-start : {end to x from : ℕ} → end ≡ getD first (z + 1) 0 → x ≡ getD heads i 0 → to ≡ getD first (x + 1) 0 → from ≡ getD first x 0
-      → Lowering first heads z i end to up₀ down₀ up₀ down₀ from (i + 1)
-  lowering-start e n d b =
+  pub lowering-start : {end x from : ℕ} → end ≡ getD first (z + 1) 0 → x ≡ getD heads i 0 → from ≡ getD first x 0
+      → Lowering first heads z i end up₀ down₀ up₀ down₀ from (i + 1)
+  lowering-start e n b =
       record {
         end-is = e;
-        to-is = d ∙ ap (λ o. getD first (o + 1) 0) n;
         later = omega arith;
         behind = rw (b, n) (behind-start (S .room .rows) z i (S .under) (S .row));
         onward = onward-none z i (i + 1) up₀ down₀;
       }
 
-  module _ {end to from j : ℕ} {up down : List ℕ} (L : Lowering first heads z i end to up₀ down₀ up down from j) where
+  module _ {end from j : ℕ} {up down : List ℕ} (L : Lowering first heads z i end up₀ down₀ up down from j) where
     abbrev up-fits : edgesOf first ≤ length up
     up-fits = omega (arith, S .room .up-long, L .onward .up-kept .long)
 
@@ -157,23 +166,27 @@ module _ {first heads up₀ down₀ : List ℕ} {z i : ℕ} (S : Beside first he
     down-fits = omega (arith, S .room .down-long, L .onward .down-kept .long)
 
     -- what the next triangle asks
-    pub lowering-corner : j < end → Corner heads (length up) (length down) i j from to
+    pub lowering-corner : j < end → Corner heads (length up) (length down) i j from
     lowering-corner l =
-        rw (L .to-is)
-        (corner (S .room .rows) z i (S .under) (S .row) j from up-fits down-fits (later-in-row first z i j end (S .row) (L .later) l (L .end-is)) (L .later)
-        (L .behind))
+        corner (S .room .rows) z i (S .under) (S .row) j from up-fits down-fits (later-in-row first z i j end (S .row) (L .later) l (L .end-is)) (L .later)
+        (L .behind)
+
+    -- the place of the edge lies before the end of the neighbour's row
+    pub lowering-within : {up′ down′ : List ℕ} {k : ℕ} → j < end → Lowered heads i j from k up down up′ down′ → k < getD first (getD heads i 0 + 1) 0
+    lowering-within l w =
+        let rj = later-in-row first z i j end (S .row) (L .later) l (L .end-is) in
+        w .placed _ (third-ahead (S .room .rows) z i (S .under) (S .row) j from rj (L .later) (L .behind)) .high
 
     -- one triangle more
-    pub lowering-more : {up′ down′ : List ℕ} {k : ℕ} → j < end → Lowered heads i j from to k up down up′ down′
-        → Lowering first heads z i end to up₀ down₀ up′ down′ (k + 1) (j + 1)
-    lowering-more {k = k} l W =
+    pub lowering-more : {up′ down′ : List ℕ} {k : ℕ} → j < end → Lowered heads i j from k up down up′ down′
+        → Lowering first heads z i end up₀ down₀ up′ down′ (k + 1) (j + 1)
+    lowering-more {k = k} l w =
         let rj = later-in-row first z i j end (S .row) (L .later) l (L .end-is) in
-        let w = rw (L .to-is) at W in
+        let placed = w .placed _ (third-ahead (S .room .rows) z i (S .under) (S .row) j from rj (L .later) (L .behind)) in
         record {
           end-is = L .end-is;
-          to-is = L .to-is;
           later = omega (arith, L .later);
-          behind = behind-next (S .room .rows) z i (S .under) (S .row) j from k (L .behind) rj (w .placed);
+          behind = behind-next (S .room .rows) z i (S .under) (S .row) j from k (L .behind) rj placed;
           onward =
               onward-edge (S .room .rows) z i (S .under) (S .row) j from k up-fits down-fits rj (L .later) (L .behind) w (L .onward);
         }

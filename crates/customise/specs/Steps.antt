@@ -46,6 +46,14 @@ pub record Ahead (heads : List ℕ) (from to y : ℕ) : Type 0 where
   pub spot : ℕ
   pub placed : Placed heads from to y spot
 
+-- y stands at some place from `from` on
+abbrev pub Somewhere : List ℕ → ℕ → ℕ → Type 0
+Somewhere heads from y = (to : ℕ) × Ahead heads from to y
+
+-- k is that place, before each end before which it stands
+abbrev pub NextPlace : List ℕ → ℕ → ℕ → ℕ → Type 0
+NextPlace heads from y k = (to : ℕ) → Ahead heads from to y → Placed heads from to y k
+
 -- y stands in row x, and a list has room for that row
 pub record Edge (first heads : List ℕ) (room x y : ℕ) : Type 0 where
   pub listed : x + 1 < length first
@@ -79,7 +87,8 @@ pub data Laid (rank first heads : List ℕ) (t h cost : ℕ) (up down up′ down
 -- ---- triangles
 
 -- the places i and j of a row, and ahead an edge between the positions there
-pub record Corner (heads : List ℕ) (ups downs i j from to : ℕ) : Type 0 where
+pub record Corner (heads : List ℕ) (ups downs i j from : ℕ) : Type 0 where
+  pub to : ℕ
   pub up-long : to ≤ ups
   pub down-long : to ≤ downs
   pub up-i : i < ups
@@ -90,8 +99,8 @@ pub record Corner (heads : List ℕ) (ups downs i j from to : ℕ) : Type 0 wher
   pub ahead : Ahead heads from to (getD heads j 0)
 
 -- the edge at place k costs no more than the way over the row's position, in both directions
-pub record Lowered (heads : List ℕ) (i j from to k : ℕ) (up down up′ down′ : List ℕ) : Type 0 where
-  pub placed : Placed heads from to (getD heads j 0) k
+pub record Lowered (heads : List ℕ) (i j from k : ℕ) (up down up′ down′ : List ℕ) : Type 0 where
+  pub placed : NextPlace heads from (getD heads j 0) k
   pub up-is : up′ ≡ set up k (min (getD up k 0) (sum (getD down i 0) (getD up j 0)))
   pub down-is : down′ ≡ set down k (min (getD down k 0) (sum (getD down j 0) (getD up i 0)))
 

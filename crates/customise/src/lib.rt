@@ -7,7 +7,7 @@ ghost use Rattle.rules.specs.Costs.{closed};
 ghost use Rattle.rules.specs.Net.{net};
 ghost use Rattle.theory.proofs.Accepted.{Accepted};
 ghost use Rattle.lists.proofs.ListLaws.{Placed};
-ghost use Rattle.customise.specs.Steps.{count, Ahead, Edge, Put, ArcFits, Laid, Corner, Lowered, Room, Beside, Onward, Turned, CustomisedLists};
+ghost use Rattle.customise.specs.Steps.{count, Ahead, Somewhere, NextPlace, Edge, Put, ArcFits, Laid, Corner, Lowered, Room, Beside, Onward, Turned, CustomisedLists};
 use lists::find_in_row;
 use lists::position_of;
 use rules::Cost;
@@ -35,6 +35,18 @@ fn edge_place(row_heads: &[u32], from: usize, to: usize, y: Position) -> usize
     let Found::At(k) = find_in_row(row_heads, from, to, y) else {
         return from;
     };
+    k
+}
+
+// The place of the edge to y, from `from` on: as there is one, no end need be watched for.
+fn place_ahead(row_heads: &[u32], from: usize, y: u32) -> usize
+    requires { ⌜ Somewhere (now «row_heads») from y ⌝ }
+    ensures { λ r. ⌜ NextPlace (now («row_heads» .entry)) from y r ⌝ }
+{
+    let mut k = from;
+    while row_heads[k] != y {
+        k += 1;
+    }
     k
 }
 
@@ -91,12 +103,11 @@ fn lower_edge(
     i: usize,
     j: usize,
     from: usize,
-    to: usize,
 ) -> usize
-    requires { ⌜ Corner (now «row_heads») (length (now up)) (length (now down)) i j from to ⌝ }
-    ensures { λ r. ⌜ Lowered (now («row_heads» .entry)) i j from to r (now (up .entry)) (now (down .entry)) (now (up .exit)) (now (down .exit)) ⌝ }
+    requires { ⌜ Corner (now «row_heads») (length (now up)) (length (now down)) i j from ⌝ }
+    ensures { λ r. ⌜ Lowered (now («row_heads» .entry)) i j from r (now (up .entry)) (now (down .entry)) (now (up .exit)) (now (down .exit)) ⌝ }
 {
-    let k = edge_place(row_heads, from, to, Position(row_heads[j]));
+    let k = place_ahead(row_heads, from, row_heads[j]);
     let rising = Cost::sum(Cost(down[i]), Cost(up[j]));
     let falling = Cost::sum(Cost(down[j]), Cost(up[i]));
     up[k] = Cost::least(Cost(up[k]), rising).0;
@@ -118,11 +129,10 @@ fn lower_beside(
 {
     let end = wide(first[z + 1]);
     let x = wide(row_heads[i]);
-    let to = wide(first[x + 1]);
     let mut from = wide(first[x]);
     let mut j = i + 1;
     while j < end {
-        from = lower_edge(row_heads, up, down, i, j, from, to) + 1;
+        from = lower_edge(row_heads, up, down, i, j, from) + 1;
         j += 1;
     }
 }

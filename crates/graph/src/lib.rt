@@ -1,14 +1,14 @@
 // Contraction: the rows of the shortcut graph, written straight into lent room, for each position from 0 upward.
 // The row of p is the arc neighbours of p above it together with the rows of p's children less p, so that the whole takes little more than E steps.
 
-ghost use Prim.Native.Nat.{ℕ, suc, _-_, _≤_, _<_};
+ghost use Prim.Native.Nat.{ℕ, suc, _+_, _-_, _≤_, _<_};
 ghost use mathlib.Core.Path.{_≡_};
 ghost use mathlib.Core.Bool.{Bool};
 ghost use mathlib.Core.List.{[], _++_};
 ghost use lib.ListN.{length, take, replicate};
 ghost use Rattle.rules.specs.Net.{net, rankList};
 ghost use Rattle.theory.proofs.BuildFits.{Buildable};
-ghost use Rattle.sets.specs.NextMembers.{Holds, Rises};
+ghost use Rattle.sets.specs.NextMembers.{members, Holds, Rises};
 ghost use Rattle.graph.specs.Growing.{Writes, Laid, Ready, Grows, Fills};
 ghost use Rattle.graph.specs.Contracted.{left, contracted};
 use rules::wide;
@@ -22,11 +22,29 @@ pub enum Room {
     Full,
 }
 
-// Writes the members of the set of p, in ascending order, from place `at` of heads on.
+// Writes the members of the set of p, in ascending order, from place `at` of heads on, where there is a place for every position above p.
+fn write_fitting(after: &[u32; 4096], n: usize, p: usize, heads: &mut [u32], at: usize) -> usize
+    requires { ⌜ Rises (now after) × (p < n) × (n ≤ 4096) × (at + (n - p) ≤ length (now heads)) ⌝ }
+    ensures { λ r. ⌜ ((S : ℕ → Bool) → Holds S n p (now (after .entry)) → (r ≤ length (now (heads .exit))) × (take r (now (heads .exit)) ≡ take at (now (heads .entry)) ++ members S n p)) ⌝ }
+{
+    let mut k = at;
+    let mut member = wide(after[p]);
+    while member < n {
+        heads[k] = member as u32;
+        k += 1;
+        member = wide(after[member]);
+    }
+    k
+}
+
+// Writes the members of the set of p, in ascending order, from place `at` of heads on, and watches for the end of the room only where it is near.
 fn write_row(after: &[u32; 4096], n: usize, p: usize, heads: &mut [u32], at: usize) -> Room
     requires { ⌜ Rises (now after) × (p < n) × (n ≤ 4096) × (at ≤ length (now heads)) ⌝ }
     ensures { λ r. ⌜ ((S : ℕ → Bool) → Holds S n p (now (after .entry)) → Writes S n p at (now (heads .entry)) (now (heads .exit)) r) ⌝ }
 {
+    if n - p <= heads.len() - at {
+        return Room::Next(write_fitting(after, n, p, heads, at));
+    }
     let mut k = at;
     let mut x = wide(after[p]);
     while x < n {

@@ -1,13 +1,14 @@
 -- What the code that tests ranks and rows leans on: the state of each loop, and a law for each way that it goes. Assumes nothing.
-use Prim.Native.Nat.{ℕ, suc, _+_, _-_, _≤_, _<_}
+use Prim.Native.Nat.{ℕ, zero, suc, _+_, _-_, _≤_, _<_}
 use mathlib.Core.Path.{_≡_, refl, sym, ap, _∙_, subst}
+use mathlib.Core.Logic.{_⊎_, inl, inr}
 use mathlib.Core.Bool.{Bool, true, false, _&&_, and-true, and-false}
-use mathlib.Core.List.{List}
+use mathlib.Core.List.{List, [], _∷_}
 use native.Mathlib.Omega.{arith}
 use native.Mathlib.Numerals.{add-one}
 use lib.Dec.{T, eqb, ltb, leb}
 use lib.ListN.{length, getD}
-use lib.Seq.{slice, slice-cons, slice-empty}
+use lib.Seq.{slice, slice-cons, slice-empty, length-slice}
 use borrow.Author.Tests.{eq-eqb, ne-eqb, lt-ltb, le-ltb, le-leb, lt-leb, eqb-true, eqb-false, leb-true}
 use Rattle.rules.specs.Words.{each}
 use Rattle.rules.specs.Hierarchy.{rowAt}
@@ -61,57 +62,118 @@ seats-fail order rank p j h e n =
 
 -- ---- one row in another
 
--- what is left to find, and what of the other row is left to look at
-pub record Left (h : List ℕ) (k end j stop at want look : ℕ) : Type 0 where
-  pub some : at < end
-  pub within : look ≤ stop
-  pub wanted : want ≡ getD h at 0
-  pub same : inOrder (slice k end h) (slice j stop h) ≡ inOrder (slice at end h) (slice look stop h)
-
--- nothing to find
-pub order-none : (h : List ℕ) (k end : ℕ) (ys : List ℕ) → k ≡ end → true ≡ inOrder (slice k end h) ys
+-- a longer list does not come in a shorter one
+order-short : (xs ys : List ℕ) → length ys < length xs → inOrder xs ys ≡ false
 unfolding inOrder
-order-none h k end ys e = rw (e, slice-empty end h) refl
+order-short [] ys l = absurd (omega arith)
+order-short (x ∷ xs) [] l = refl
+order-short (x ∷ xs) (y ∷ ys) l =
+    either (split (eqb y x))
+    (λ e. rw e (order-short xs ys (omega arith)))
+    (λ e. rw e (order-short (x ∷ xs) ys (omega arith)))
+
+-- nor do more entries in fewer
+part-short : (h : List ℕ) (k end j stop : ℕ) → end ≤ length h → stop ≤ length h → stop - j < end - k → false ≡ inOrder (slice k end h) (slice j stop h)
+part-short h k end j stop fits stops l =
+    sym (order-short (slice k end h) (slice j stop h) (omega (arith, length-slice k end h fits, length-slice j stop h stops)))
+
+-- the entries from `at` on are left to find, from `gap` places behind `at` on, and there are enough to look at
+pub record Left (h : List ℕ) (k end j stop most at gap : ℕ) : Type 0 where
+  pub within : at ≤ end
+  pub enough : gap ≤ most
+  pub most-is : end + most ≡ stop
+  pub same : inOrder (slice k end h) (slice j stop h) ≡ inOrder (slice at end h) (slice (at + gap) stop h)
+
+-- fewer to look at than to find
+pub left-few : (h : List ℕ) (k end j stop most gap : ℕ) → k ≤ end → end ≤ j → j ≤ stop → stop ≤ length h → most ≡ stop - end → gap ≡ j - k → most < gap
+    → false ≡ inOrder (slice k end h) (slice j stop h)
+left-few h k end j stop most gap a b c d e f l = part-short h k end j stop (omega arith) d (omega arith)
 
 -- all to find and all to look at
-pub left-start : (h : List ℕ) (k end j stop want : ℕ) → k ≤ end → (k ≡ end → ⊥) → j ≤ stop → want ≡ getD h k 0 → Left h k end j stop k want j
-left-start h k end j stop want l n m e = record { some = omega arith; within = m; wanted = e; same = refl }
+pub left-start : (h : List ℕ) (k end j stop most gap : ℕ) → k ≤ end → end ≤ j → j ≤ stop → most ≡ stop - end → gap ≡ j - k → (most < gap → ⊥)
+    → Left h k end j stop most k gap
+left-start h k end j stop most gap a b c e f n =
+    let g : k + gap ≡ j = omega arith in
+    record { within = a; enough = omega arith; most-is = omega arith; same = rw g refl }
 
-module _ {h : List ℕ} {k end j stop at want look : ℕ} (s : Left h k end j stop at want look) (fits : end ≤ length h) (stops : stop ≤ length h) where
-  -- all of the other row looked at, and not all found
-  pub left-over : stop ≤ look → false ≡ inOrder (slice k end h) (slice j stop h)
+module _ {h : List ℕ} {k end j stop most at gap : ℕ} (s : Left h k end j stop most at gap) (stops : stop ≤ length h) where
+  -- all found
+  pub left-all : end ≤ at → true ≡ inOrder (slice k end h) (slice j stop h)
   unfolding inOrder
-  left-over l =
-      let e : look ≡ stop = omega (arith, s .within) in
-      sym (s .same ∙ rw (slice-cons at end h 0 (s .some) fits, e, slice-empty stop h) refl)
+  left-all l =
+      let e : at ≡ end = omega (arith, s .within) in
+      sym (s .same ∙ rw (e, slice-empty end h) refl)
 
-  -- the next entry of the other row is the wanted one
-  hit : look < stop → getD h look 0 ≡ want → inOrder (slice k end h) (slice j stop h) ≡ inOrder (slice (at + 1) end h) (slice (look + 1) stop h)
-  unfolding inOrder
-  hit l e =
-      s .same
-      ∙ rw (slice-cons at end h 0 (s .some) fits, slice-cons look stop h 0 l stops, eq-eqb (getD h look 0) (getD h at 0) (e ∙ s .wanted), add-one at, add-one look) refl
+  module _ (l : at < end) where
+    -- the first that is left, and what it is compared with
+    first-two : inOrder (slice at end h) (slice (at + gap) stop h)
+        ≡ inOrder (getD h at 0 ∷ slice (suc at) end h) (getD h (at + gap) 0 ∷ slice (suc (at + gap)) stop h)
+    first-two =
+        rw (slice-cons at end h 0 l (omega (arith, s .most-is)), slice-cons (at + gap) stop h 0 (omega (arith, s .most-is, s .enough)) stops) refl
 
-  -- the last wanted one is found
-  pub left-end : look < stop → getD h look 0 ≡ want → at + 1 ≡ end → true ≡ inOrder (slice k end h) (slice j stop h)
-  left-end l e d = order-none h (at + 1) end (slice (look + 1) stop h) d ∙ sym (hit l e)
+    -- they are the same
+    pub left-hit : getD h (at + gap) 0 ≡ getD h at 0 → Left h k end j stop most (at + 1) gap
+    unfolding inOrder
+    left-hit e =
+        let n : at + 1 + gap ≡ suc (at + gap) = omega arith in
+        record {
+          within = omega arith;
+          enough = s .enough;
+          most-is = s .most-is;
+          same = s .same ∙ first-two ∙ rw (eq-eqb (getD h (at + gap) 0) (getD h at 0) e, n, add-one at) refl;
+        }
 
-  -- one is found, and there are more
-  pub left-hit : (next : ℕ) → look < stop → getD h look 0 ≡ want → (at + 1 ≡ end → ⊥) → next ≡ getD h (at + 1) 0 → Left h k end j stop (at + 1) next (look + 1)
-  left-hit next l e n d = record { some = omega (arith, s .some); within = omega arith; wanted = d; same = hit l e }
+    -- they differ: on to the next
+    passed : (getD h (at + gap) 0 ≡ getD h at 0 → ⊥) → inOrder (slice k end h) (slice j stop h) ≡ inOrder (slice at end h) (slice (suc (at + gap)) stop h)
+    unfolding inOrder
+    passed n =
+        s .same ∙ first-two
+        ∙ rw (ne-eqb (getD h (at + gap) 0) (getD h at 0) n, slice-cons at end h 0 l (omega (arith, s .most-is))) refl
 
-  -- the next entry is not the wanted one
-  pub left-miss : look < stop → (getD h look 0 ≡ want → ⊥) → Left h k end j stop at want (look + 1)
-  unfolding inOrder
-  left-miss l n =
-      record {
-        some = s .some;
-        within = omega arith;
-        wanted = s .wanted;
-        same =
-            s .same
-            ∙ rw (slice-cons at end h 0 (s .some) fits, slice-cons look stop h 0 l stops, ne-eqb (getD h look 0) (getD h at 0) (λ e. n (e ∙ sym (s .wanted))), add-one look) refl;
-      }
+    -- if enough are left to look at
+    pub left-miss : (getD h (at + gap) 0 ≡ getD h at 0 → ⊥) → (gap ≡ most → ⊥) → Left h k end j stop most at (gap + 1)
+    left-miss n d =
+        let e : at + (gap + 1) ≡ suc (at + gap) = omega arith in
+        record { within = s .within; enough = omega (arith, s .enough); most-is = s .most-is; same = passed n ∙ rw e refl }
+
+    -- else not all come
+    pub left-over : (getD h (at + gap) 0 ≡ getD h at 0 → ⊥) → gap ≡ most → false ≡ inOrder (slice k end h) (slice j stop h)
+    left-over n e =
+        part-short h at end (suc (at + gap)) stop (omega (arith, s .most-is)) stops (omega (arith, s .most-is)) ∙ sym (passed n)
+
+-- the entries before `at` are the same, or some are not
+pub record Compared (h : List ℕ) (k end gap at : ℕ) (same : Bool) : Type 0 where
+  pub within : at ≤ end
+  pub so-far : ((same ≡ true) × Left h k end (k + gap) (end + gap) gap at gap)
+      ⊎ ((same ≡ false) × (false ≡ inOrder (slice k end h) (slice (k + gap) (end + gap) h)))
+
+-- none yet
+pub compared-start : (h : List ℕ) (k end gap : ℕ) → k ≤ end → Compared h k end gap k true
+compared-start h k end gap l =
+    record { within = l; so-far = inl (refl, record { within = l; enough = omega arith; most-is = refl; same = refl }) }
+
+module _ {h : List ℕ} {k end gap at : ℕ} {same : Bool} (c : Compared h k end gap at same) (stops : end + gap ≤ length h) where
+  -- two that are the same
+  pub compared-same : at < end → getD h (at + gap) 0 ≡ getD h at 0 → Compared h k end gap (at + 1) same
+  compared-same l e =
+      record { within = omega arith; so-far = either (c .so-far) (λ s. inl (s .0, left-hit (s .1) stops l e)) (λ s. inr s) }
+
+  -- two that differ
+  pub compared-other : at < end → (getD h (at + gap) 0 ≡ getD h at 0 → ⊥) → Compared h k end gap (at + 1) false
+  compared-other l n =
+      record { within = omega arith; so-far = inr (refl, either (c .so-far) (λ s. left-over (s .1) stops l n refl) (λ s. s .1)) }
+
+  -- all compared
+  pub compared-all : end ≤ at → same ≡ inOrder (slice k end h) (slice (k + gap) (end + gap) h)
+  compared-all l = either (c .so-far) (λ s. s .0 ∙ left-all (s .1) stops l) (λ s. s .0 ∙ s .1)
+
+-- rows of one length, by their ends
+pub same-rows-are : (h : List ℕ) (k end j stop most gap : ℕ) (r : Bool) → k ≤ end → end ≤ j → j ≤ stop → most ≡ stop - end → gap ≡ j - k → gap ≡ most
+    → r ≡ inOrder (slice k end h) (slice (k + gap) (end + gap) h) → r ≡ inOrder (slice k end h) (slice j stop h)
+same-rows-are h k end j stop most gap r a b c d e f g =
+    let x : k + gap ≡ j = omega arith in
+    let y : end + gap ≡ stop = omega arith in
+    g ∙ rw (x, y) refl
 
 -- ---- one row
 
@@ -151,13 +213,21 @@ module _ (n : ℕ) (f h : List ℕ) (p a b : ℕ) (low : a ≡ getD f p 0) (high
         let g : to ≡ getD f (suc c) 0 = y ∙ ap (λ k. getD f k 0) (add-one c) in
         e ∙ sym (row-parent ∙ rw (lt-ltb p c l, lt-ltb c n m, x, g) refl)
 
--- the parent's row lies within heads
+-- later rows start no earlier
+rises-from : {n p : ℕ} {f h : List ℕ} → RowsFrom n f h p → (d : ℕ) → p + d ≤ n → getD f p 0 ≤ getD f (p + d) 0
+rises-from {p = p} {f} rows zero l = omega (arith, ap (λ k. getD f k 0) (let e : p + 0 ≡ p = omega arith in e))
+rises-from {p = p} {f} rows (suc d) l =
+    let e : p + suc d ≡ suc (p + d) = omega arith in
+    omega (arith, ap (λ k. getD f k 0) e, rises-from rows d (omega arith), rows .rise (p + d) (omega arith) (omega arith) .0)
+
+-- the parent's row lies behind the row, and within heads
 pub row-within : {n p : ℕ} {f h : List ℕ} → RowsFrom n f h (p + 1) → (c from to : ℕ) → p < c → c < n → from ≡ getD f c 0 → to ≡ getD f (c + 1) 0
-    → (from ≤ to) × (to ≤ length h)
-row-within {f} rows c from to l m x y =
+    → (getD f (p + 1) 0 ≤ from) × (from ≤ to) × (to ≤ length h)
+row-within {p = p} {f} rows c from to l m x y =
     let (u, v) = rows .rise c (omega arith) m in
     let g : to ≡ getD f (suc c) 0 = y ∙ ap (λ k. getD f k 0) (add-one c) in
-    (omega arith, omega arith)
+    let e : p + 1 + (c - (p + 1)) ≡ c = omega arith in
+    (omega (arith, rises-from rows (c - (p + 1)) (omega arith), ap (λ k. getD f k 0) e), omega arith, omega arith)
 
 -- ---- all rows, from the last down
 

@@ -34,28 +34,48 @@ fn ranks_order(order: &[u32], rank: &[u32]) -> bool
     true
 }
 
-// The entries from k to end come in order among those from j to stop.
+// The entries from k to end are those that stand `gap` places behind them: it goes to the end in any case, so that many are compared at once.
+fn same_entries(heads: &[u32], k: usize, end: usize, gap: usize) -> bool
+    requires { ⌜ (k ≤ end) × (end + gap ≤ length (now heads)) ⌝ }
+    ensures { λ r. ⌜ r ≡ inOrder (slice k end (now (heads .entry))) (slice (k + gap) (end + gap) (now (heads .entry))) ⌝ }
+{
+    let mut same = true;
+    let mut at = k;
+    while at < end {
+        if heads[at + gap] != heads[at] {
+            same = false;
+        }
+        at += 1;
+    }
+    same
+}
+
+// The entries from k to end come in order among those from j to stop, which stand behind them: the gap from an entry to its like only grows,
+// and an end needs watching only where it grows.
 fn comes_in(heads: &[u32], k: usize, end: usize, j: usize, stop: usize) -> bool
-    requires { ⌜ (k ≤ end) × (end ≤ length (now heads)) × (j ≤ stop) × (stop ≤ length (now heads)) ⌝ }
+    requires { ⌜ (k ≤ end) × (end ≤ j) × (j ≤ stop) × (stop ≤ length (now heads)) ⌝ }
     ensures { λ r. ⌜ r ≡ inOrder (slice k end (now (heads .entry))) (slice j stop (now (heads .entry))) ⌝ }
 {
-    if k == end {
-        return true;
+    let most = stop - end;
+    let mut gap = j - k;
+    if most < gap {
+        return false;
+    }
+    if gap == most {
+        return same_entries(heads, k, end, gap);
     }
     let mut at = k;
-    let mut want = heads[k];
-    let mut look = j;
-    while look < stop {
-        if heads[look] == want {
+    while at < end {
+        if heads[at + gap] == heads[at] {
             at += 1;
-            if at == end {
-                return true;
+        } else {
+            if gap == most {
+                return false;
             }
-            want = heads[at];
+            gap += 1;
         }
-        look += 1;
     }
-    false
+    true
 }
 
 // The row of p: empty, or the parent is above p and below n and the rest comes in order in the parent's row.

@@ -11,21 +11,21 @@ use lib.ListN.{length, getD}
 use lib.Seq.{slice, slice-cons, slice-empty}
 use Rattle.rules.specs.Hierarchy.{ascends}
 use Rattle.theory.proofs.GraphRows.{ascends-e}
-use Rattle.sets.specs.NextMembers.{also, alsoAll, Holds, Rises, PutIn}
+use Rattle.sets.specs.NextMembers.{also, alsoAll, Holds, Rises, PutIn, Behind}
 use Rattle.sets.proofs.Membership.{also-r, all-more, all-none}
 
--- the entries before place k have been put in; `last` is where the next goes on
-pub record Merging (list : List ℕ) (from to n p k last : ℕ) (before after : List ℕ) : Type 0 where
+-- the entries before place k have been put in, behind `base`; `last` is where the next goes on
+pub record Merging (list : List ℕ) (from to n base k last : ℕ) (before after : List ℕ) : Type 0 where
   pub within : k ≤ to
   pub ascend : T (ascends (suc last) n (slice k to list))
   pub rises : Rises after
-  pub holds : (S : ℕ → Bool) → Holds S n p before
+  pub holds : (S : ℕ → Bool) (p : ℕ) → Holds S n p before → (base ≡ p) ⊎ T (S base)
       → (R : ℕ → Bool) × Holds R n p after × ((last ≡ p) ⊎ T (R last)) × (alsoAll (slice from to list) S ≡ alsoAll (slice k to list) R)
 
 -- none yet
 pub merging-start : (list : List ℕ) (from to n p : ℕ) (a : List ℕ) → from ≤ to → T (ascends (suc p) n (slice from to list)) → Rises a → Merging list from to n p from p a a
 merging-start list from to n p a l t u =
-    record { within = l; ascend = t; rises = u; holds = λ S h. (S, h, inl refl, refl) }
+    record { within = l; ascend = t; rises = u; holds = λ S q h w. (S, h, w, refl) }
 
 module _ (list : List ℕ) (from to n p k last : ℕ) (a₀ a : List ℕ) (m : Merging list from to n p k last a₀ a) where
   module _ (more : k < to) (fits : to ≤ length list) where
@@ -45,18 +45,33 @@ module _ (list : List ℕ) (from to n p k last : ℕ) (a₀ a : List ℕ) (m : M
           within = more;
           ascend = t;
           rises = r .rises;
-          holds = λ S g.
-              let (R, i, w, j) = m .holds S g in (
+          holds = λ S q g v.
+              let (R, i, w, j) = m .holds S q g v in (
                 also R (getD list k 0),
-                subst (λ v. Holds (also R v) n p b) e (r .holds R n p i few (omega arith) w),
+                subst (λ u. Holds (also R u) n q b) e (r .holds R n q i few (omega arith) w),
                 inr (also-r R (getD list k 0) (getD list k 0) refl),
                 j ∙ ap (λ l. alsoAll l R) s ∙ all-more (getD list k 0) (slice (suc k) to list) R,
               );
         })
 
   -- all of them
-  pub merging-end : to ≤ k → (S : ℕ → Bool) → Holds S n p a₀ → Holds (alsoAll (slice from to list) S) n p a
-  merging-end l S g =
-      let (R, i, w, j) = m .holds S g in
-      let e : k ≡ to = omega (arith, m .within) in
-      subst (λ Q. Holds Q n p a) (sym (j ∙ ap (λ i. alsoAll (slice i to list) R) e ∙ ap (λ l. alsoAll l R) (slice-empty to list) ∙ all-none R)) i
+  pub merging-end : to ≤ k → Behind (slice from to list) n p a₀ a
+  merging-end l = record { rises = m .rises; holds = ended }
+    where
+      e : k ≡ to
+      e = omega (arith, m .within)
+
+      ended : (S : ℕ → Bool) (q : ℕ) → Holds S n q a₀ → (p ≡ q) ⊎ T (S p) → Holds (alsoAll (slice from to list) S) n q a
+      ended S q g v =
+          let (R, i, w, j) = m .holds S q g v in
+          subst (λ Q. Holds Q n q a) (sym (j ∙ ap (λ i. alsoAll (slice i to list) R) e ∙ ap (λ l. alsoAll l R) (slice-empty to list) ∙ all-none R)) i
+
+  -- the rest put in behind the last
+  pub merging-rest : (b : List ℕ) → Behind (slice k to list) n last a b → Behind (slice from to list) n p a₀ b
+  merging-rest b r =
+      record {
+        rises = r .rises;
+        holds = λ S q g v.
+            let (R, i, w, j) = m .holds S q g v in
+            subst (λ Q. Holds Q n q b) (sym j) (r .holds R q i w);
+      }

@@ -184,6 +184,10 @@ put-there from y a x z u r e =
           holds-same S (also S y) n p a (λ q s. either (also-e S y q s) (λ i. i) (λ i. subst (λ k. T (S k)) (sym i) t)) (λ q s. also-l S y q s) h;
     }
 
+-- it has not begun
+pub reached-start : (x y : ℕ) (a : List ℕ) → x < y → Reached x y a x (getD a x 0)
+reached-start x y a l = record { low = l; next = refl; reach = λ S n p h m w. w }
+
 -- or where y belongs between x and what stands behind it
 pub put-between : (from y : ℕ) (a : List ℕ) (x z : ℕ) → Rises a → y < 4096 → Reached from y a x z → y < z → PutIn from y a (set (set a y z) x y)
 put-between from y a x z u fits r high =
@@ -192,3 +196,11 @@ put-between from y a x z u fits r high =
       rises = put-rises a x y (getD a x 0) (u .long) (r .low) fits u (omega (arith, r .next));
       holds = λ S n p h few m w. put-holds S n p x y a h (u .long) few m (r .reach S n p h m w) (r .low) (omega (arith, r .next));
     })
+
+-- behind a place with no member behind it y is put in without a walk, and then has no member behind it
+pub put-last : (x y n : ℕ) (a : List ℕ) → Rises a → n ≤ 4096 → x < y → y < n → getD a x 0 ≡ n
+    → PutIn x y a (set (set a y n) x y) × (getD (set (set a y n) x y) y 0 ≡ n)
+put-last x y n a u few low high e = (
+  rw (← e) (put-between x y a x (getD a x 0) u (omega arith) (reached-start x y a low) (omega arith)),
+  at-y a x y n (u .long) low (omega arith),
+)

@@ -50,6 +50,11 @@ pub record PutIn (from y : ℕ) (before after : List ℕ) : Type 0 where
   pub rises : Rises after
   pub holds : (S : ℕ → Bool) (n p : ℕ) → Holds S n p before → n ≤ 4096 → y < n → (from ≡ p) ⊎ T (S from) → Holds (also S y) n p after
 
+-- the entries of a list were put in, behind a place that is p or a member: whatever set the array held before, it now holds that set with them
+pub record Behind (list : List ℕ) (n base : ℕ) (before after : List ℕ) : Type 0 where
+  pub rises : Rises after
+  pub holds : (S : ℕ → Bool) (p : ℕ) → Holds S n p before → (base ≡ p) ⊎ T (S base) → Holds (alsoAll list S) n p after
+
 -- the entries of a list from place `from` up to `to` ascend, above p and below n: they can be put into the set of p
 pub record AscendingPart (list : List ℕ) (from to n p : ℕ) : Type 0 where
   pub order : from ≤ to

@@ -5,9 +5,9 @@
 ghost use Prim.Native.Nat.{ℕ, _+_, _≤_, _<_};
 ghost use mathlib.Core.Path.{_≡_};
 ghost use mathlib.Core.Bool.{Bool};
-ghost use lib.ListN.{length, replicate};
+ghost use lib.ListN.{length, getD, replicate};
 ghost use lib.Seq.{slice};
-ghost use Rattle.sets.specs.NextMembers.{alsoAll, Holds, Rises, PutIn, AscendingPart};
+ghost use Rattle.sets.specs.NextMembers.{alsoAll, Holds, Rises, PutIn, Behind, AscendingPart};
 ghost use Rattle.sets.specs.Threads.{Threaded};
 ghost use Rattle.sets.specs.Arcs.{lowEnd, highEnd, ArcIn, ArcLists, withArcs};
 ghost use Rattle.sets.specs.Gathered.{parentIn, withChildren, RowsIn, Gatherable, gathered};
@@ -31,7 +31,25 @@ fn put(after: &mut [u32; 4096], from: usize, y: u32)
     }
 }
 
-// Puts the ascending entries of a list from place `from` up to `to` into the set of p: each goes on where the last was put.
+// Puts the ascending entries of a list from place `from` up to `to` behind `base`, behind which there is no member: nothing is looked for.
+fn append_all(list: &[u32], from: usize, to: usize, n: usize, base: usize, after: &mut [u32; 4096])
+    requires { ⌜ AscendingPart (now list) from to n base × Rises (now after) × (getD (now after) base 0 ≡ n) ⌝ }
+    ensures { λ _. ⌜ Behind (slice from to (now (list .entry))) n base (now (after .entry)) (now (after .exit)) ⌝ }
+{
+    let mut last = base;
+    let mut k = from;
+    while k < to {
+        let y = list[k];
+        let place = wide(y);
+        after[place] = n as u32;
+        after[last] = y;
+        last = place;
+        k += 1;
+    }
+}
+
+// Puts the ascending entries of a list from place `from` up to `to` into the set of p: each goes on where the last was put, and all that are
+// left go behind the set's last member.
 fn put_all(list: &[u32], from: usize, to: usize, n: usize, p: usize, after: &mut [u32; 4096])
     requires { ⌜ AscendingPart (now list) from to n p × Rises (now after) ⌝ }
     ensures rises { λ _. ⌜ Rises (now (after .exit)) ⌝ }
@@ -40,6 +58,10 @@ fn put_all(list: &[u32], from: usize, to: usize, n: usize, p: usize, after: &mut
     let mut last = p;
     let mut k = from;
     while k < to {
+        if wide(after[last]) == n {
+            append_all(list, k, to, n, last, after);
+            return;
+        }
         let y = list[k];
         put(after, last, y);
         last = wide(y);

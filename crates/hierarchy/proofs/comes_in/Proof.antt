@@ -1,45 +1,93 @@
--- The entries from `at` are left to find, from `look` on; what is left to look at is the measure. Assumes nothing.
+-- The entries from `at` are left to find, from `gap` places behind it on; what is left to find and how far the gap may grow are the measure.
+-- Assumes nothing.
+use borrow.Author.Needs.{needs}
 use Prim.Native.Nat.{_+_, _-_}
 use mathlib.Core.Path.{refl}
-use lib.ListN.{getD}
-use lib.Seq.{slice}
-use borrow.Author.Needs.{needs}
-use Rattle.theory.proofs.Laws.{either}
-use Rattle.hierarchy.proofs.RowLaws.{Left, order-none, left-start, left-over, left-end, left-hit, left-miss}
+use native.Mathlib.Omega.{arith}
+use Rattle.hierarchy.proofs.RowLaws.{Left, left-few, left-start, left-all, left-hit, left-miss, left-over, same-rows-are}
 use Rattle.hierarchy.proofs.comes_in.Statement.{statement}
 use Rattle.hierarchy.proofs.comes_in.Tie as tie
 
 abbrev Inv-loop : tie.InvT-loop
-Inv-loop heads k end j stop at₀ want₀ look₀ at want look = Left heads k end j stop at want look
+Inv-loop heads k end j stop most gap₀ at₀ gap at = Left heads k end j stop most at gap
 
 abbrev μ-loop : tie.MeasureT-loop
-μ-loop heads k end j stop at₀ want₀ look₀ at want look = stop - look
+μ-loop heads k end j stop most gap₀ at₀ gap at = (end - at) + (most - gap)
 
 returns : tie.Need-returns Inv-loop μ-loop
-returns c = let a = c .before .args in
-    order-none (a .heads .now) (a .k) (a .end) (slice (a .j) (a .stop) (a .heads .now)) (c .if1 .taken)
-
-loop-holds : tie.Need-loop-holds Inv-loop μ-loop
-loop-holds c = let s = c .before .before in
+returns c =
+    let s = c .before .before in
     let a = s .args in
-    left-start (a .heads .now) (a .k) (a .end) (a .j) (a .stop) (getD (a .heads .now) (a .k) 0) (s .pre .0) (c .before .if1 .left) (s .pre .2) refl
+    left-few (a .heads .now) (a .k) (a .end) (a .j) (a .stop) _ _ (s .pre .0) (s .pre .1) (s .pre .2) (s .pre .3) refl refl (c .if1 .taken)
+
+same-entries-requires : tie.Need-same-entries-requires Inv-loop μ-loop
+same-entries-requires c κs =
+    let h = c .before .before .before .pre in
+    (h .0, omega (arith, h .0, h .1, h .2, h .3, c .if2 .taken))
 
 returns-2 : tie.Need-returns-2 Inv-loop μ-loop
-returns-2 c = let s = c .before .before .before .before .before .before .before in
-    left-end (c .before .before .before .before .loop .inv) (s .pre .1) (s .pre .3) (c .before .before .before .loop-test .taken) (c .before .if2 .taken) (c .if3 .taken)
+returns-2 c =
+    let s = c .before .before .before .before in
+    let a = s .args in
+    same-rows-are (a .heads .now) (a .k) (a .end) (a .j) (a .stop) _ _ (c .same-entries .result) (s .pre .0) (s .pre .1) (s .pre .2) refl refl (c .before .if2 .taken) (c .same-entries .ensures)
+
+loop-holds : tie.Need-loop-holds Inv-loop μ-loop
+loop-holds c =
+    let s = c .before .before .before in
+    let a = s .args in
+    left-start (a .heads .now) (a .k) (a .end) (a .j) (a .stop) _ _ (s .pre .0) (s .pre .1) (s .pre .2) refl refl (λ l. omega (arith, c .before .if1 .left))
+
+add-if3 : tie.Need-add-if3 Inv-loop μ-loop
+add-if3 c = let l = c .before .loop .inv in omega (arith, l .enough, l .most-is, c .loop-test .taken)
+
+mul-if3 : tie.Need-mul-if3 Inv-loop μ-loop
+mul-if3 c = let l = c .before .loop .inv in omega (arith, l .enough, l .most-is, c .loop-test .taken, c .before .before .before .before .before .pre .3)
+
+shared-slice-read-if3 : tie.Need-shared-slice-read-if3 Inv-loop μ-loop
+shared-slice-read-if3 c =
+    let t = c .before in
+    let l = t .before .loop .inv in
+    omega (arith, l .enough, l .most-is, t .loop-test .taken, t .before .before .before .before .before .pre .3)
+
+mul-if3-2 : tie.Need-mul-if3-2 Inv-loop μ-loop
+mul-if3-2 c =
+    let t = c .before in
+    let l = t .before .loop .inv in
+    omega (arith, l .most-is, t .loop-test .taken, t .before .before .before .before .before .pre .3)
+
+shared-slice-read-if3-2 : tie.Need-shared-slice-read-if3-2 Inv-loop μ-loop
+shared-slice-read-if3-2 c =
+    let t = c .before .before in
+    let l = t .before .loop .inv in
+    omega (arith, l .most-is, t .loop-test .taken, t .before .before .before .before .before .pre .3)
 
 loop-again : tie.Need-loop-again Inv-loop μ-loop
-loop-again c = let s = c .before .before .before .before .before .before in
-    let t = c .before .before in
-    let l = t .before .loop in
-    either (c .if2 .came)
-    (λ w.
-    rw (w .3, w .4)
-    (left-hit (l .inv) (s .pre .1) (s .pre .3) (getD (s .args .heads .now) (l .at + 1) 0) (t .loop-test .taken) (w .0 .taken) (w .1 .left) refl))
-    (λ w. rw (w .1, w .2) (left-miss (l .inv) (s .pre .1) (s .pre .3) (t .loop-test .taken) (w .0 .left)))
+loop-again c =
+    let t = c .before .before .before in
+    left-hit (t .before .loop .inv) (t .before .before .before .before .before .pre .3) (t .loop-test .taken) (c .if3 .taken)
 
 returns-3 : tie.Need-returns-3 Inv-loop μ-loop
-returns-3 c = let s = c .before .before .before .before in left-over (c .before .loop .inv) (s .pre .1) (s .pre .3) (c .loop-test .left)
+returns-3 c =
+    let t = c .before .before .before .before in
+    left-over (t .before .loop .inv) (t .before .before .before .before .before .pre .3) (t .loop-test .taken) (c .before .if3 .left) (c .if4 .taken)
+
+add-gap : tie.Need-add-gap Inv-loop μ-loop
+add-gap c =
+    let l = c .before .before .before .before .before .loop .inv in
+    omega (arith, l .enough, l .most-is, c .if4 .left)
+
+loop-less-2 : tie.Need-loop-less-2 Inv-loop μ-loop
+loop-less-2 c =
+    let l = c .before .before .before .before .before .loop .inv in
+    omega (arith, l .enough, c .if4 .left)
+
+loop-again-2 : tie.Need-loop-again-2 Inv-loop μ-loop
+loop-again-2 c =
+    let t = c .before .before .before .before in
+    left-miss (t .before .loop .inv) (t .before .before .before .before .before .pre .3) (t .loop-test .taken) (c .before .if3 .left) (c .if4 .left)
+
+returns-4 : tie.Need-returns-4 Inv-loop μ-loop
+returns-4 c = left-all (c .before .loop .inv) (c .before .before .before .before .before .pre .3) (c .loop-test .left)
 
 pub comes-in-spec : {M : Type 1} → statement M
 comes-in-spec =
@@ -47,17 +95,22 @@ comes-in-spec =
     (tie.spec
     Inv-loop
     μ-loop
+    (λ c. search needs)
+    (λ c. search needs)
     returns
-    (λ c. search needs)
-    (λ c. search needs)
-    loop-holds
-    (λ c. search needs)
-    (λ c. search needs)
-    (λ c. search needs)
+    same-entries-requires
     returns-2
-    (λ c. search needs)
-    (λ c. search needs)
+    loop-holds
+    add-if3
+    mul-if3
+    shared-slice-read-if3
+    mul-if3-2
+    shared-slice-read-if3-2
     (λ c. search needs)
     (λ c. search needs)
     loop-again
-    returns-3)
+    returns-3
+    add-gap
+    loop-less-2
+    loop-again-2
+    returns-4)

@@ -44,8 +44,8 @@ comes-in-requires c κs = let e = c .before .before .before .before in
     let s = v .before .before .before .before .before .before in
     let x = c .before .before .wide4 in
     let y = c .wide5 in
-    let (l, m) = row-within (s .pre .2) (e .before .before .wide3 .result) (x .result) (y .result) (e .before .if3 .left) (e .if4 .left) (x .ensures) (y .ensures) in
-    (omega (arith, e .before .before .before .before .before .if1 .left, e .before .before .before .before .if2 .left), omega (arith, v .wide2 .ensures, s .pre .2 .fits), l, m)
+    let (o, l, m) = row-within (s .pre .2) (e .before .before .wide3 .result) (x .result) (y .result) (e .before .if3 .left) (e .if4 .left) (x .ensures) (y .ensures) in
+    (omega (arith, e .before .before .before .before .before .if1 .left, e .before .before .before .before .if2 .left), omega (arith, v .wide2 .ensures), l, m)
 
 returns-5 : tie.Need-returns-5
 returns-5 c = let e = c .before .before .before .before .before in

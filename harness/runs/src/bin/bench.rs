@@ -3,16 +3,16 @@
 use nets::stored;
 use runs::lists::Call;
 use runs::measure::{self, at, name, PerJob};
-use runs::ready::{Ready, Who, PAIRS};
+use runs::ready::{Ready, Who};
 use std::fmt::Write;
-use std::path::PathBuf;
+use std::path::{Path, PathBuf};
 use std::process::exit;
 
 const USAGE: &str = "\
 bench: measures the four calls beside plain safe Rust and Dijkstra
 
   --nets FOLDER   where the stored nets are
-  --write FILE    write the tables to a file, too; only if the library itself is linked
+  --write FILE    put the tables between the two marks of a file, too; only if the library itself is linked
   --times-only    no instruction counts
   --quick         few samples, two nets";
 
@@ -23,6 +23,12 @@ const GROWTH: [&str; 5] = [
     "county 1024",
     "county 2048",
     "county 4096",
+];
+
+/// The marks of a file between which the tables stand. What is written outside them is kept.
+const MARKS: [&str; 2] = [
+    "<!-- tables: bench writes from here -->\n",
+    "<!-- tables: to here -->\n",
 ];
 
 const CALLS: [Call; 4] = [Call::Build, Call::Customise, Call::Distance, Call::Route];
@@ -99,9 +105,19 @@ fn bench(options: &Options) -> Result<(), String> {
     let text = report(&measured(nets)?, &measured(counties)?);
     println!("{text}");
     if let Some(file) = &options.write {
-        std::fs::write(file, text).map_err(|error| format!("{}: {error}", file.display()))?;
+        write(file, &text).map_err(|error| format!("{}: {error}", file.display()))?;
     }
     Ok(())
+}
+
+/// Puts the tables between the marks of a file.
+fn write(file: &Path, tables: &str) -> Result<(), String> {
+    let old = std::fs::read_to_string(file).map_err(|error| error.to_string())?;
+    let [from, to] = MARKS;
+    let (before, rest) = old.split_once(from).ok_or("the first mark is missing")?;
+    let (_, after) = rest.split_once(to).ok_or("the second mark is missing")?;
+    let new = format!("{before}{from}{tables}{to}{after}");
+    std::fs::write(file, new).map_err(|error| error.to_string())
 }
 
 fn measure(options: &Options, name: &'static str) -> Result<Measured, String> {
@@ -125,33 +141,23 @@ fn measure(options: &Options, name: &'static str) -> Result<Measured, String> {
 }
 
 fn report(nets: &[Measured], counties: &[Measured]) -> String {
-    let mut text = String::new();
     let linked = calls::linked();
-    // writing to a string never fails
-    let _ = write!(
-        text,
-        "# Benchmarks\n\n\
-         Each call with all of its checks, beside the same calls in plain safe Rust (`harness/plain`) and Dijkstra with a binary heap\n\
-         (`harness/naive/src/walks.rs`), one after the other in one run, all compiled for release. Measured: {linked}.\n\n\
-         Times are medians in microseconds, the three taking turns; what else the machine does shows in them. Instructions are thousands per call,\n\
-         counted by callgrind; they hardly vary from run to run. Distance and route are means over {PAIRS} pairs of junctions chosen anyhow.\n\
-         Orders are made by dissection over coordinates. Lists are lent once and not cleared between calls. A ratio is the library's number by plain Rust's.\n\n\
-         Again: `cargo run --release --bin bench -- --write ../docs/BENCHMARKS.md` in `harness/`.\n\n"
-    );
+    let mut text = format!("Measured: {linked}.\n\n");
     for net in nets {
         table(&mut text, net);
     }
-    text.push_str("## Growth\n\nSynthetic counties, the library's calls and Dijkstra.\n\n");
-    text.push_str("| n | arcs | E | build | customise | distance | route | Dijkstra |\n");
-    text.push_str("|---:|---:|---:|---:|---:|---:|---:|---:|\n");
-    for county in counties {
-        growth(&mut text, county);
-    }
-    text.push_str("\nEach cell: microseconds, then thousands of instructions.\n");
+    text.push_str("## Growth\n\nSynthetic counties. Each cell: library / plain Rust = ratio.\n\n");
+    growth(&mut text, "Microseconds", counties, |county| {
+        Some(county.times)
+    });
+    growth(&mut text, "Thousands of instructions", counties, |county| {
+        county.counts.map(|counts| counts.map(|count| count / 1e3))
+    });
     text
 }
 
 fn table(text: &mut String, net: &Measured) {
+    // writing to a string never fails
     let _ = write!(
         text,
         "## {}: {} junctions, {} arcs, E = {}\n\n\
@@ -194,21 +200,36 @@ fn table(text: &mut String, net: &Measured) {
     text.push_str(".\n\n");
 }
 
-fn growth(text: &mut String, county: &Measured) {
+/// A table of the counties by one kind of numbers, if they were measured.
+fn growth(
+    text: &mut String,
+    kind: &str,
+    counties: &[Measured],
+    numbers: impl Fn(&Measured) -> Option<PerJob<f64>>,
+) {
+    // writing to a string never fails
     let _ = write!(
         text,
-        "| {} | {} | {} |",
-        county.n, county.arcs, county.edges
+        "{kind}:\n\n\
+         | n | arcs | E | build | customise | distance | route | Dijkstra |\n\
+         |---:|---:|---:|---:|---:|---:|---:|---:|\n"
     );
-    let library = CALLS.map(|call| (call, Who::Library));
-    for job in library.into_iter().chain([(Call::Distance, Who::Dijkstra)]) {
-        let _ = write!(text, " {:.1}", county.times[at(job)]);
-        match &county.counts {
-            Some(counts) => {
-                let _ = write!(text, "; {:.1} |", counts[at(job)] / 1e3);
-            }
-            None => text.push_str(" |"),
+    for county in counties {
+        let Some(numbers) = numbers(county) else {
+            continue;
+        };
+        let Measured { n, arcs, edges, .. } = county;
+        let _ = write!(text, "| {n} | {arcs} | {edges} |");
+        for call in CALLS {
+            let [library, plain] = [Who::Library, Who::Plain].map(|who| numbers[at((call, who))]);
+            let _ = write!(
+                text,
+                " {library:.1} / {plain:.1} = {:.2} |",
+                library / plain
+            );
         }
+        let dijkstra = numbers[at((Call::Distance, Who::Dijkstra))];
+        let _ = writeln!(text, " {dijkstra:.1} |");
     }
     text.push('\n');
 }
