@@ -10,7 +10,7 @@ use lib.Seq.{getD-take, getD-drop}
 use borrow.Author.Tests.{eqb-true, eqb-false}
 use Rattle.rules.specs.Hierarchy.{linked, place}
 use Rattle.theory.proofs.Laws.{either, split}
-use Rattle.theory.proofs.Rows.{InRow, Rows, rises, linked-e, linked-i}
+use Rattle.theory.proofs.Rows.{InRow, Rows, count-is, rises, linked-e, linked-i}
 use Rattle.lists.specs.Lent.{part}
 use Rattle.distance.specs.Labelled.{count, Lists}
 
@@ -26,16 +26,11 @@ part-at f t l i h = getD-take (t - f) (drop f l) i 0 h ∙ getD-drop f l i 0
 
 -- ---- the lists
 
--- how many positions
-pub count-is : (first : List ℕ) (n : ℕ) → length first ≡ suc n → count first ≡ n
-unfolding count
-count-is first n e = omega arith
-
 -- the rows of a hierarchy and lists that are long enough are what the walks ask
 pub lists-of : {n : ℕ} {first heads : List ℕ} → Rows n first heads → (up down : List ℕ) → n ≤ 4096
     → getD first n 0 ≤ length up → getD first n 0 ≤ length down → Lists first heads up down
 lists-of {n} {first} {heads} R up down few u w =
-    let e : count first ≡ n = count-is first n (R .long) in
+    let e : count first ≡ n = count-is R in
     record {
       rows = rw e R;
       few = omega arith;

@@ -1,5 +1,5 @@
 -- What the walks up the chains of parents ask and promise. Assumes nothing.
-use Prim.Native.Nat.{ℕ, _-_, _≤_, _<_, min}
+use Prim.Native.Nat.{ℕ, _≤_, _<_, min}
 use mathlib.Core.Path.{_≡_}
 use mathlib.Core.Logic.{_≢_}
 use mathlib.Core.Bool.{Bool, cond, not}
@@ -12,10 +12,7 @@ use Rattle.rules.specs.Hierarchy.{linked}
 use Rattle.rules.specs.Distance.{label, labelFrom}
 use Rattle.theory.proofs.Tree.{Chain}
 use Rattle.theory.proofs.Rows.{Rows}
-
--- how many positions the lists of a hierarchy speak of
-unfoldable pub count : List ℕ → ℕ
-count first = length first - 1
+unfoldable pub use Rattle.theory.proofs.Rows.{count}
 
 -- the lists of a hierarchy of at most 4,096 positions, and a place for each edge in both cost lists, whatever stands there
 pub record Lists (first heads up down : List ℕ) : Type 0 where

@@ -32,6 +32,14 @@ pub record Rows (n : ℕ) (first heads : List ℕ) : Type 0 where
   pub third : (z i j : ℕ) → z < n → InRow first z i → InRow first z j → i < j
       → (k : ℕ) × InRow first (getD heads i 0) k × (getD heads k 0 ≡ getD heads j 0)
 
+-- how many positions a list of row starts speaks of: it has one entry more
+unfoldable pub count : List ℕ → ℕ
+count first = length first - 1
+
+pub count-is : {n : ℕ} {first heads : List ℕ} → Rows n first heads → count first ≡ n
+unfolding count
+count-is R = omega (arith, R .long)
+
 -- ---- parts of a list
 
 -- what stands at one of a part's places

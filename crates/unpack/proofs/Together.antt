@@ -16,7 +16,7 @@ use Rattle.rules.specs.Route.{met, edgesWithin}
 use Rattle.rules.specs.Calls.{listedDistance, listedWay}
 use Rattle.theory.proofs.Accepted.{Accepted}
 use Rattle.theory.proofs.LabelLaws.{distance-top, meeting-made}
-use Rattle.theory.proofs.Rows.{Rows}
+use Rattle.theory.proofs.Rows.{Rows, count-is}
 use Rattle.theory.proofs.WayLaws.{met-ways}
 use Rattle.sets.specs.Threads.{Threaded}
 use Rattle.distance.specs.Labelled.{count, Lists, Climbed, Met}
@@ -31,10 +31,6 @@ use Rattle.unpack.proofs.TraceLaws.{climbed-leads, climbed-edges}
 use Rattle.unpack.proofs.DriveLaws.{over-append}
 
 -- ---- from the checks
-
-count-is : {n : ℕ} {first heads : List ℕ} → Rows n first heads → count first ≡ n
-unfolding count
-count-is R = omega (arith, R .long)
 
 -- accepted lists are all that is asked
 pub given : {tails heads costs order rank first rowHeads up down : List ℕ} → Accepted (net tails heads costs order) rank first rowHeads up down
