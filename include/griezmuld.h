@@ -28,6 +28,12 @@
  *   A list that is const is only read. A list that a call writes must not overlap any other list of that call.
  *   A pointer must not be NULL, even where its length is 0; it is then not used.
  *
+ * Stack
+ *   What a call needs besides the lists it keeps on the stack. On the lists that ask most of it, measured on x86-64: build
+ *   144 KiB, customise 16 KiB, distance 80 KiB, route 1,696 KiB. Of route's, some 220 KiB are always used; the rest is for
+ *   shortcuts made of shortcuts, nearly 400 bytes for each inside another. They nest 4,000 deep only if the order is as bad as can
+ *   be, but nothing forbids such an order: give the thread that calls route 2 MiB.
+ *
  * Replies
  *   Each call returns the number of a refusal, 0 when it has accepted. It always writes *place: the place of the fault,
  *   which is 0 unless the table below names another, and 0 when accepted. Its other numbers it always writes, too; after a
