@@ -1,0 +1,50 @@
+-- Each promise to the tablet allows one outcome: every number told and every lent list. Assumes nothing.
+use Prim.Native.Nat.{ℕ}
+use mathlib.Core.Path.{_≡_, sym, ap, _∙_}
+use mathlib.Core.List.{List}
+use Rattle.tablet.specs.Numbers.{BuildNumbers, buildNumbers, CustomiseNumbers, customiseNumbers, DistanceNumbers, distanceNumbers, RouteNumbers, routeNumbers}
+
+pub build-once : {n n′ p p′ e e′ : ℕ} {rank rank′ first first′ heads heads′ : List ℕ} (told : BuildNumbers)
+    → buildNumbers n p e rank first heads ≡ told → buildNumbers n′ p′ e′ rank′ first′ heads′ ≡ told
+    → (n ≡ n′) × (p ≡ p′) × (e ≡ e′) × (rank ≡ rank′) × (first ≡ first′) × (heads ≡ heads′)
+build-once told a b =
+    let c = a ∙ sym b in (
+      ap (λ (t : BuildNumbers). t .number) c,
+      ap (λ (t : BuildNumbers). t .place) c,
+      ap (λ (t : BuildNumbers). t .edges) c,
+      ap (λ (t : BuildNumbers). t .rank) c,
+      ap (λ (t : BuildNumbers). t .first) c,
+      ap (λ (t : BuildNumbers). t .heads) c,
+    )
+
+pub customise-once : {n n′ p p′ : ℕ} {up up′ down down′ : List ℕ} (told : CustomiseNumbers)
+    → customiseNumbers n p up down ≡ told → customiseNumbers n′ p′ up′ down′ ≡ told
+    → (n ≡ n′) × (p ≡ p′) × (up ≡ up′) × (down ≡ down′)
+customise-once told a b =
+    let c = a ∙ sym b in (
+      ap (λ (t : CustomiseNumbers). t .number) c,
+      ap (λ (t : CustomiseNumbers). t .place) c,
+      ap (λ (t : CustomiseNumbers). t .up) c,
+      ap (λ (t : CustomiseNumbers). t .down) c,
+    )
+
+pub distance-once : {n n′ p p′ d d′ : ℕ} (told : DistanceNumbers) → distanceNumbers n p d ≡ told → distanceNumbers n′ p′ d′ ≡ told
+    → (n ≡ n′) × (p ≡ p′) × (d ≡ d′)
+distance-once told a b =
+    let c = a ∙ sym b in (
+      ap (λ (t : DistanceNumbers). t .number) c,
+      ap (λ (t : DistanceNumbers). t .place) c,
+      ap (λ (t : DistanceNumbers). t .distance) c,
+    )
+
+pub route-once : {n n′ p p′ d d′ k k′ : ℕ} {route route′ : List ℕ} (told : RouteNumbers)
+    → routeNumbers n p d k route ≡ told → routeNumbers n′ p′ d′ k′ route′ ≡ told
+    → (n ≡ n′) × (p ≡ p′) × (d ≡ d′) × (k ≡ k′) × (route ≡ route′)
+route-once told a b =
+    let c = a ∙ sym b in (
+      ap (λ (t : RouteNumbers). t .number) c,
+      ap (λ (t : RouteNumbers). t .place) c,
+      ap (λ (t : RouteNumbers). t .distance) c,
+      ap (λ (t : RouteNumbers). t .arcs) c,
+      ap (λ (t : RouteNumbers). t .route) c,
+    )
