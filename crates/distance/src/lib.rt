@@ -24,7 +24,7 @@ pub struct Meeting {
 }
 
 // Offers position p the label of position q with an edge's cost added: a smaller one is taken, and CLOSED gives none.
-fn offer(labels: &mut [u64; 4096], came: &mut [u32; 4096], q: u32, mine: u64, p: usize, cost: Cost)
+fn offer(labels: &mut [u64; 4096], came: &mut [u16; 4096], q: u16, mine: u64, p: usize, cost: Cost)
     requires { ⌜ (length (now labels) ≡ 4096) × (length (now came) ≡ 4096) × (p < 4096) × (mine < 17592186044416) ⌝ }
     ensures { λ _. ⌜ OfferedTo p q (offerOf mine (cost .0)) (now (labels .entry)) (now (came .entry)) (now (labels .exit)) (now (came .exit)) ⌝ }
 {
@@ -39,7 +39,7 @@ fn offer(labels: &mut [u64; 4096], came: &mut [u32; 4096], q: u32, mine: u64, p:
 }
 
 // Hands the label of position q on along the edges of its row, given the row's heads and costs: without a label there is nothing to hand on.
-fn hand_on(heads: &[u32], costs: &[u32], q: usize, labels: &mut [u64; 4096], came: &mut [u32; 4096])
+fn hand_on(heads: &[u32], costs: &[u32], q: usize, labels: &mut [u64; 4096], came: &mut [u16; 4096])
     requires { ⌜ RowOf q (now heads) (now costs) (now labels) (now came) ⌝ }
     ensures { λ _. ⌜ HandedOn q (getD (now (labels .entry)) q 0) (now (heads .entry)) (now (costs .entry)) (length (now (heads .entry))) (now (labels .entry)) (now (came .entry)) (now (labels .exit)) (now (came .exit)) ⌝ }
 {
@@ -47,7 +47,7 @@ fn hand_on(heads: &[u32], costs: &[u32], q: usize, labels: &mut [u64; 4096], cam
     if mine == NONE {
         return;
     }
-    let from = q as u32;
+    let from = q as u16;
     let mut i = 0;
     while i < heads.len() {
         offer(labels, came, from, mine, wide(heads[i]), Cost(costs[i]));
@@ -64,7 +64,7 @@ pub fn climb<'a>(
     d: Direction,
     s: Position,
     labels: &mut [u64; 4096],
-    came: &mut [u32; 4096],
+    came: &mut [u16; 4096],
 )
     requires { ⌜ Lists (now first) (now «row_heads») (now up) (now down) × (s .0 < count (now first)) × (now labels ≡ replicate 4096 none) × (length (now came) ≡ 4096) ⌝ }
     ensures { λ _. ⌜ Climbed (count (now (first .entry))) (linked (now (first .entry)) (now («row_heads» .entry))) (along d (held (now (first .entry)) (now («row_heads» .entry)) (now (up .entry)) (now (down .entry)))) (s .0) (now (labels .exit)) (now (came .exit)) ⌝ }
@@ -142,7 +142,7 @@ pub fn ask<'a>(
 {
     let mut from_start = [NONE; 4096];
     let mut from_target = [NONE; 4096];
-    let mut came = [0u32; 4096];
+    let mut came = [0u16; 4096];
     climb(
         first,
         row_heads,

@@ -64,14 +64,14 @@ fn add_row(
     tails: &[u32],
     heads: &[u32],
     rank: &[u32],
-    arc_at: &[u32; 4096],
-    arc_next: &[u32; 16384],
+    arc_at: &[u16; 4096],
+    arc_next: &[u16; 16384],
     p: usize,
     at: usize,
     first: &mut [u32],
     row_heads: &mut [u32],
-    child_at: &mut [u32; 4096],
-    child_next: &mut [u32; 4096],
+    child_at: &mut [u16; 4096],
+    child_next: &mut [u16; 4096],
     after: &mut [u32; 4096],
 ) -> Room
     requires { ⌜ Ready (now tails) (now heads) (now order) (now rank) (now «arc_at») (now «arc_next») p at (now first) (now «row_heads») (now «child_at») (now «child_next») (now after) ⌝ }
@@ -106,16 +106,16 @@ fn add_rows(
     tails: &[u32],
     heads: &[u32],
     rank: &[u32],
-    arc_at: &[u32; 4096],
-    arc_next: &[u32; 16384],
+    arc_at: &[u16; 4096],
+    arc_next: &[u16; 16384],
     first: &mut [u32],
     row_heads: &mut [u32],
 ) -> Room
     requires { ⌜ Laid (now tails) (now heads) (now order) (now rank) (now «arc_at») (now «arc_next») × (length (now first) ≡ suc (length (now order))) ⌝ }
     ensures { λ r. ⌜ Fills (net (now (tails .entry)) (now (heads .entry)) [] (now (order .entry))) (now («row_heads» .entry)) (now (first .exit)) (now («row_heads» .exit)) r ⌝ }
 {
-    let mut child_at = [0u32; 4096];
-    let mut child_next = [0u32; 4096];
+    let mut child_at = [0u16; 4096];
+    let mut child_next = [0u16; 4096];
     let mut after = [4096u32; 4096];
     first[0] = 0;
     let mut p = 0;
@@ -168,8 +168,8 @@ pub fn contract(
     requires { ⌜ Buildable (now tails) (now heads) (now order) (now rank) (now first) × (now rank ≡ rankList (now order)) ⌝ }
     ensures { λ r. ⌜ left r (now (first .exit)) (now («row_heads» .exit)) ≡ contracted (net (now (tails .entry)) (now (heads .entry)) [] (now (order .entry))) (length (now («row_heads» .entry))) ⌝ }
 {
-    let mut arc_at = [0u32; 4096];
-    let mut arc_next = [0u32; 16384];
+    let mut arc_at = [0u16; 4096];
+    let mut arc_next = [0u16; 16384];
     thread_arcs(tails, heads, rank, &mut arc_at, &mut arc_next);
     let Room::Next(e) = add_rows(
         order,

@@ -21,6 +21,7 @@ use rules::Found;
 use rules::Junction;
 use rules::Position;
 use rules::wide;
+use rules::wide16;
 
 // What opening a piece answers: the next free place of the route list, that an arc has no place left, or that a piece fits nothing.
 pub enum Opened {
@@ -50,8 +51,8 @@ fn write_arc(route: &mut [u32], at: usize, arc: usize) -> Opened
 // The last arc listed from u to v: a later listing replaces an earlier one.
 fn last_arc(
     heads: &[u32],
-    arc_at: &[u32; 4096],
-    arc_next: &[u32; 16384],
+    arc_at: &[u16; 4096],
+    arc_next: &[u16; 16384],
     u: Junction,
     v: Junction,
 ) -> Found
@@ -61,13 +62,13 @@ fn last_arc(
 {
     let want = v.0;
     let start = u.0 as usize;
-    let mut k = wide(arc_at[start]);
+    let mut k = wide16(arc_at[start]);
     while 0 < k {
         let i = k - 1;
         if heads[i] == want {
             return Found::At(i);
         }
-        k = wide(arc_next[i]);
+        k = wide16(arc_next[i]);
     }
     Found::Nothing
 }
@@ -77,8 +78,8 @@ fn fitting_arc(
     order: &[u32],
     heads: &[u32],
     costs: &[u32],
-    arc_at: &[u32; 4096],
-    arc_next: &[u32; 16384],
+    arc_at: &[u16; 4096],
+    arc_next: &[u16; 16384],
     a: Position,
     b: Position,
     w: Cost,
@@ -182,8 +183,8 @@ pub fn open_up(
     order: &[u32],
     heads: &[u32],
     costs: &[u32],
-    arc_at: &[u32; 4096],
-    arc_next: &[u32; 16384],
+    arc_at: &[u16; 4096],
+    arc_next: &[u16; 16384],
     first: &[u32],
     row_heads: &[u32],
     up: &[u32],
@@ -258,8 +259,8 @@ pub fn open_down(
     order: &[u32],
     heads: &[u32],
     costs: &[u32],
-    arc_at: &[u32; 4096],
-    arc_next: &[u32; 16384],
+    arc_at: &[u16; 4096],
+    arc_next: &[u16; 16384],
     first: &[u32],
     row_heads: &[u32],
     up: &[u32],

@@ -12,6 +12,13 @@ pub fn wide(x: u32) -> usize
     x as usize
 }
 
+// A 16-bit number of a list as an index.
+pub fn wide16(x: u16) -> usize
+    ensures { λ r. ⌜ r ≡ x ⌝ }
+{
+    x as usize
+}
+
 // A cost in tenths of a second, or CLOSED.
 pub struct Cost(pub u32);
 

@@ -1,6 +1,7 @@
 // The row of one position, brought together as a set of the positions above it.
 // The set is held in a lent array: at the position and at each member stands the next member, and n at the last. Nothing is shifted, marked or
 // cleared, and what else stands in the array does not matter. Arcs are found by their lower end, and children by their parent, along threads.
+// Threads are of 16-bit numbers, half as much to clear; the set is of 32-bit numbers, which need no widening at each use.
 
 ghost use Prim.Native.Nat.{ℕ, _+_, _≤_, _<_};
 ghost use mathlib.Core.Path.{_≡_};
@@ -12,6 +13,7 @@ ghost use Rattle.sets.specs.Threads.{Threaded};
 ghost use Rattle.sets.specs.Arcs.{lowEnd, highEnd, ArcIn, ArcLists, withArcs};
 ghost use Rattle.sets.specs.Gathered.{parentIn, withChildren, RowsIn, Gatherable, gathered};
 use rules::wide;
+use rules::wide16;
 
 // Puts y into the set, from a place below y that is the set's position or a member.
 fn put(after: &mut [u32; 4096], from: usize, y: u32)
@@ -104,8 +106,8 @@ pub fn thread_arcs(
     tails: &[u32],
     heads: &[u32],
     rank: &[u32],
-    at: &mut [u32; 4096],
-    next: &mut [u32; 16384],
+    at: &mut [u16; 4096],
+    next: &mut [u16; 16384],
 )
     requires { ⌜ ArcLists (now tails) (now heads) (now rank) (length (now rank)) × (now at ≡ replicate 4096 0) × (length (now next) ≡ 16384) ⌝ }
     ensures { λ _. ⌜ Threaded (lowEnd (now (tails .entry)) (now (heads .entry)) (now (rank .entry))) 4096 16384 (length (now (tails .entry))) (now (at .exit)) (now (next .exit)) ⌝ }
@@ -114,7 +116,7 @@ pub fn thread_arcs(
     while i < tails.len() {
         let p = low_end(tails, heads, rank, i);
         next[i] = at[p];
-        at[p] = (i + 1) as u32;
+        at[p] = (i + 1) as u16;
         i += 1;
     }
 }
@@ -126,22 +128,22 @@ fn put_arcs(
     rank: &[u32],
     n: usize,
     p: usize,
-    at: &[u32; 4096],
-    next: &[u32; 16384],
+    at: &[u16; 4096],
+    next: &[u16; 16384],
     after: &mut [u32; 4096],
 )
     requires { ⌜ ArcLists (now tails) (now heads) (now rank) n × (p < n) × Threaded (lowEnd (now tails) (now heads) (now rank)) 4096 16384 (length (now tails)) (now at) (now next) × Rises (now after) ⌝ }
     ensures rises { λ _. ⌜ Rises (now (after .exit)) ⌝ }
     ensures set { λ _. ⌜ ((S : ℕ → Bool) → Holds S n p (now (after .entry)) → Holds (withArcs (now (tails .entry)) (now (heads .entry)) (now (rank .entry)) p S) n p (now (after .exit))) ⌝ }
 {
-    let mut k = wide(at[p]);
+    let mut k = wide16(at[p]);
     while 0 < k {
         let i = k - 1;
         let y = high_end(tails, heads, rank, i);
         if p < y {
             put(after, p, y as u32);
         }
-        k = wide(next[i]);
+        k = wide16(next[i]);
     }
 }
 
@@ -151,21 +153,21 @@ fn put_children(
     heads: &[u32],
     n: usize,
     p: usize,
-    at: &[u32; 4096],
-    next: &[u32; 4096],
+    at: &[u16; 4096],
+    next: &[u16; 4096],
     after: &mut [u32; 4096],
 )
     requires { ⌜ RowsIn (now first) (now heads) n p × (p < n) × Threaded (parentIn (now first) (now heads) n) n 4096 p (now at) (now next) × Rises (now after) ⌝ }
     ensures rises { λ _. ⌜ Rises (now (after .exit)) ⌝ }
     ensures set { λ _. ⌜ ((S : ℕ → Bool) → Holds S n p (now (after .entry)) → Holds (withChildren (now (first .entry)) (now (heads .entry)) n p S) n p (now (after .exit))) ⌝ }
 {
-    let mut k = wide(at[p]);
+    let mut k = wide16(at[p]);
     while 0 < k {
         let c = k - 1;
         let from = wide(first[c]);
         let to = wide(first[c + 1]);
         put_all(heads, from + 1, to, n, p, after);
-        k = wide(next[c]);
+        k = wide16(next[c]);
     }
 }
 
@@ -174,12 +176,12 @@ pub fn gather_row(
     tails: &[u32],
     heads: &[u32],
     rank: &[u32],
-    arc_at: &[u32; 4096],
-    arc_next: &[u32; 16384],
+    arc_at: &[u16; 4096],
+    arc_next: &[u16; 16384],
     first: &[u32],
     row_heads: &[u32],
-    child_at: &[u32; 4096],
-    child_next: &[u32; 4096],
+    child_at: &[u16; 4096],
+    child_next: &[u16; 4096],
     n: usize,
     p: usize,
     after: &mut [u32; 4096],
@@ -193,12 +195,12 @@ pub fn gather_row(
 }
 
 // Threads p by its parent; n for none.
-pub fn thread_child(n: usize, p: usize, parent: usize, at: &mut [u32; 4096], next: &mut [u32; 4096])
+pub fn thread_child(n: usize, p: usize, parent: usize, at: &mut [u16; 4096], next: &mut [u16; 4096])
     requires { ⌜ (p < n) × (n ≤ 4096) ⌝ }
     ensures { λ _. ⌜ ((f : ℕ → ℕ) → f p ≡ parent → Threaded f n 4096 p (now (at .entry)) (now (next .entry)) → Threaded f n 4096 (p + 1) (now (at .exit)) (now (next .exit))) ⌝ }
 {
     if parent < n {
         next[p] = at[parent];
-        at[parent] = (p + 1) as u32;
+        at[parent] = (p + 1) as u16;
     }
 }

@@ -39,7 +39,7 @@ use rules::wide;
 const NONE: u64 = 18446744073709551615;
 
 // Threads the arcs by their tails, so that the arcs from one junction are found without a search.
-fn thread_tails(tails: &[u32], arc_at: &mut [u32; 4096], arc_next: &mut [u32; 16384])
+fn thread_tails(tails: &[u32], arc_at: &mut [u16; 4096], arc_next: &mut [u16; 16384])
     requires { ⌜ ((i : ℕ) → i < length (now tails) → getD (now tails) i 0 < 4096) × (length (now tails) ≤ 16384) × (now «arc_at» ≡ replicate 4096 0) × (length (now «arc_next») ≡ 16384) ⌝ }
     ensures { λ _. ⌜ Threaded (λ i. getD (now (tails .entry)) i 0) 4096 16384 (length (now (tails .entry))) (now («arc_at» .exit)) (now («arc_next» .exit)) ⌝ }
 {
@@ -47,7 +47,7 @@ fn thread_tails(tails: &[u32], arc_at: &mut [u32; 4096], arc_next: &mut [u32; 16
     while i < tails.len() {
         let u = wide(tails[i]);
         arc_next[i] = arc_at[u];
-        arc_at[u] = (i + 1) as u32;
+        arc_at[u] = (i + 1) as u16;
         i += 1;
     }
 }
@@ -117,7 +117,7 @@ fn find_edge(first: &[u32], row_heads: &[u32], x: Position, y: Position) -> Foun
 fn trace(
     first: &[u32],
     row_heads: &[u32],
-    came: &[u32; 4096],
+    came: &[u16; 4096],
     s: Position,
     m: Position,
     way: &mut [u32; 4096],
@@ -128,7 +128,7 @@ fn trace(
     let mut p = m.0;
     let mut at = 4096;
     while p != s.0 {
-        let q = came[wide(p)];
+        let q = came[wide(p)] as u32;
         let Found::At(k) = find_edge(first, row_heads, Position(q), Position(p)) else {
             return at;
         };
@@ -144,8 +144,8 @@ fn drive_up(
     order: &[u32],
     heads: &[u32],
     costs: &[u32],
-    arc_at: &[u32; 4096],
-    arc_next: &[u32; 16384],
+    arc_at: &[u16; 4096],
+    arc_next: &[u16; 16384],
     first: &[u32],
     row_heads: &[u32],
     up: &[u32],
@@ -195,14 +195,14 @@ fn drive_down(
     order: &[u32],
     heads: &[u32],
     costs: &[u32],
-    arc_at: &[u32; 4096],
-    arc_next: &[u32; 16384],
+    arc_at: &[u16; 4096],
+    arc_next: &[u16; 16384],
     first: &[u32],
     row_heads: &[u32],
     up: &[u32],
     down: &[u32],
     low: &[u32; 4096],
-    came: &[u32; 4096],
+    came: &[u16; 4096],
     m: Position,
     t: Position,
     free: usize,
@@ -214,7 +214,7 @@ fn drive_down(
     let mut p = m.0;
     let mut at = free;
     while p != t.0 {
-        let q = came[wide(p)];
+        let q = came[wide(p)] as u32;
         let Found::At(k) = find_edge(first, row_heads, Position(q), Position(p)) else {
             return Opened::Misfit;
         };
@@ -253,8 +253,8 @@ fn drive_way(
     row_heads: &[u32],
     up: &[u32],
     down: &[u32],
-    came_up: &[u32; 4096],
-    came_down: &[u32; 4096],
+    came_up: &[u16; 4096],
+    came_down: &[u16; 4096],
     s: Position,
     m: Position,
     t: Position,
@@ -263,8 +263,8 @@ fn drive_way(
     requires { ⌜ Given (now tails) (now heads) (now costs) (now order) (now first) (now «row_heads») (now up) (now down) × (m .0 < count (now first)) × Leads (now first) (now «row_heads») (now «came_up») (s .0) (m .0) × Leads (now first) (now «row_heads») (now «came_down») (t .0) (m .0) ⌝ }
     ensures { λ r. ⌜ ran r (now (route .exit)) ≡ put (wayOver (net (now (tails .entry)) (now (heads .entry)) (now (costs .entry)) (now (order .entry))) (now (first .entry)) (now («row_heads» .entry)) (now (up .entry)) (now (down .entry)) (cameEdges (now («came_up» .entry)) Up (s .0) (suc (m .0)) (m .0) ++ reverse (cameEdges (now («came_down» .entry)) Down (t .0) (suc (m .0)) (m .0)))) 0 (now (route .entry)) ⌝ }
 {
-    let mut arc_at = [0u32; 4096];
-    let mut arc_next = [0u32; 16384];
+    let mut arc_at = [0u16; 4096];
+    let mut arc_next = [0u16; 16384];
     thread_tails(tails, &mut arc_at, &mut arc_next);
     let mut low = [4096u32; 4096];
     find_lows(first, row_heads, &mut low);
@@ -328,8 +328,8 @@ fn drive<'a>(
 {
     let mut from_start = [NONE; 4096];
     let mut from_target = [NONE; 4096];
-    let mut came_up = [0u32; 4096];
-    let mut came_down = [0u32; 4096];
+    let mut came_up = [0u16; 4096];
+    let mut came_down = [0u16; 4096];
     climb(
         first,
         row_heads,

@@ -19,7 +19,7 @@ abbrev μ-loop : tie.MeasureT-loop
 loop-holds : tie.Need-loop-holds Inv-loop μ-loop
 loop-holds c =
     let s = c .before .before .before .before in
-    seek-start _ _ _ _ _ _ (s .pre .0) (s .pre .1) (c .wide .ensures)
+    seek-start _ _ _ _ _ _ (s .pre .0) (s .pre .1) (c .wide16 .ensures)
 
 within : (c : tie.In-loop Inv-loop μ-loop) → c .before .loop .k - 1 < length (c .before .before .before .before .before .before .args .heads .now)
 within c = seek-within _ _ _ _ _ _ _ (c .before .loop .inv) (c .loop-test .taken) refl
@@ -33,13 +33,13 @@ loop-less : tie.Need-loop-less Inv-loop μ-loop
 loop-less c =
     let l = c .before .before .before .before in
     let s = l .before .before .before .before .before .before in
-    omega (arith, within l, s .pre .0 .falls (l .before .loop .k - 1) (within l), c .wide2 .ensures, l .loop-test .taken)
+    omega (arith, within l, s .pre .0 .falls (l .before .loop .k - 1) (within l), c .wide162 .ensures, l .loop-test .taken)
 
 loop-again : tie.Need-loop-again Inv-loop μ-loop
 loop-again c =
     let l = c .before .before .before .before in
     let s = l .before .before .before .before .before .before in
-    seek-more _ _ _ _ _ _ _ (l .before .loop .inv) (l .loop-test .taken) refl _ (s .pre .0) (s .pre .1) (c .before .before .if1 .left) (c .wide2 .ensures)
+    seek-more _ _ _ _ _ _ _ (l .before .loop .inv) (l .loop-test .taken) refl _ (s .pre .0) (s .pre .1) (c .before .before .if1 .left) (c .wide162 .ensures)
 
 returns-2 : tie.Need-returns-2 Inv-loop μ-loop
 returns-2 c = (tt, seek-end _ _ _ _ _ _ (c .before .loop .inv) (c .loop-test .left))

@@ -35,7 +35,7 @@ below c =
 loop-holds : tie.Need-loop-holds Inv-loop μ-loop
 loop-holds c =
     let h = c .before .before .before .before .before .pre in
-    walking-start _ _ _ _ _ _ _ (h .3) (c .wide .ensures ∙ h .2 .lasts _ (omega (arith, h .1, h .0 .few)))
+    walking-start _ _ _ _ _ _ _ (h .3) (c .wide16 .ensures ∙ h .2 .lasts _ (omega (arith, h .1, h .0 .few)))
 
 high-end-requires : tie.Need-high-end-requires Inv-loop μ-loop
 high-end-requires c κs =
@@ -53,7 +53,7 @@ loop-less c =
     let t = c .before .before .before .before in
     let q = t .before .loop in
     let h = start t .pre in
-    omega (arith, c .wide2 .ensures, arc-falls _ _ _ _ _ _ _ (h .0) (h .1) (h .2) (q .k) _ _ (q .inv) (t .loop-test .taken))
+    omega (arith, c .wide162 .ensures, arc-falls _ _ _ _ _ _ _ (h .0) (h .1) (h .2) (q .k) _ _ (q .inv) (t .loop-test .taken))
 
 loop-again : tie.Need-loop-again Inv-loop μ-loop
 loop-again c =
@@ -61,7 +61,7 @@ loop-again c =
     let q = t .before .loop in
     let h = start t .pre in
     let y = c .before .before .before .high-end in
-    arc-more _ _ _ _ _ _ _ (h .0) (h .1) (h .2) (q .k) _ _ (q .inv) (t .loop-test .taken) (y .result) _ _ (y .ensures) (c .wide2 .ensures)
+    arc-more _ _ _ _ _ _ _ (h .0) (h .1) (h .2) (q .k) _ _ (q .inv) (t .loop-test .taken) (y .result) _ _ (y .ensures) (c .wide162 .ensures)
     (either (c .before .before .if1 .came) (λ w. inl (w .0 .taken, rw (w .3) (w .2 .ensures))) (λ w. inr (w .0 .left, w .1)))
 
 returns : tie.Need-returns Inv-loop μ-loop

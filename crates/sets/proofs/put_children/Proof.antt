@@ -25,17 +25,17 @@ abbrev start : tie.In-loop Inv-loop μ-loop → tie.Start Inv-loop μ-loop
 start t = t .before .before .before .before .before .before
 
 -- the child's row can be put in
-part : (c : tie.After-wide3 Inv-loop μ-loop) → AscendingPart (start (c .before .before .before .before) .args .heads .now) (c .before .before .wide2 .result + 1) (c .wide3 .result) (start (c .before .before .before .before) .args .n) (start (c .before .before .before .before) .args .p)
+part : (c : tie.After-wide2 Inv-loop μ-loop) → AscendingPart (start (c .before .before .before .before) .args .heads .now) (c .before .before .wide .result + 1) (c .wide2 .result) (start (c .before .before .before .before) .args .n) (start (c .before .before .before .before) .args .p)
 part c =
     let t = c .before .before .before .before in
     let q = t .before .loop in
     let h = start t .pre in
-    child-part _ _ _ _ _ _ (h .0) (h .1) (h .2) (q .k) _ _ (q .inv) (t .loop-test .taken) _ _ (c .before .before .wide2 .ensures) (c .wide3 .ensures)
+    child-part _ _ _ _ _ _ (h .0) (h .1) (h .2) (q .k) _ _ (q .inv) (t .loop-test .taken) _ _ (c .before .before .wide .ensures) (c .wide2 .ensures)
 
 loop-holds : tie.Need-loop-holds Inv-loop μ-loop
 loop-holds c =
     let h = c .before .before .before .before .pre in
-    walking-start _ _ _ _ _ _ _ (h .3) (c .wide .ensures ∙ h .2 .lasts _ (h .1))
+    walking-start _ _ _ _ _ _ _ (h .3) (c .wide16 .ensures ∙ h .2 .lasts _ (h .1))
 
 add-put-all : tie.Need-add-put-all Inv-loop μ-loop
 add-put-all c = omega (arith, part c .order)
@@ -48,7 +48,7 @@ loop-less c =
     let t = c .before .before .before .before .before .before .before .before in
     let q = t .before .loop in
     let h = start t .pre in
-    omega (arith, c .wide4 .ensures, child-falls _ _ _ _ _ _ (h .0) (h .1) (h .2) (q .k) _ _ (q .inv) (t .loop-test .taken))
+    omega (arith, c .wide162 .ensures, child-falls _ _ _ _ _ _ (h .0) (h .1) (h .2) (q .k) _ _ (q .inv) (t .loop-test .taken))
 
 loop-again : tie.Need-loop-again Inv-loop μ-loop
 loop-again c =
@@ -56,8 +56,8 @@ loop-again c =
     let q = t .before .loop in
     let h = start t .pre in
     let put = c .before .before .put-all .ensures in
-    child-more _ _ _ _ _ _ (h .0) (h .1) (h .2) (q .k) _ _ (q .inv) (t .loop-test .taken) _ _ (c .before .before .before .before .before .before .wide2 .ensures) (c .before .before .before .before .wide3 .ensures) _ _
-    (c .wide4 .ensures) (put .0) (put .1)
+    child-more _ _ _ _ _ _ (h .0) (h .1) (h .2) (q .k) _ _ (q .inv) (t .loop-test .taken) _ _ (c .before .before .before .before .before .before .wide .ensures) (c .before .before .before .before .wide2 .ensures) _ _
+    (c .wide162 .ensures) (put .0) (put .1)
 
 returns : tie.Need-returns Inv-loop μ-loop
 returns c = let q = c .before .loop in (q .inv .rises, walking-end _ _ _ _ _ (q .k) _ _ (q .inv) (c .loop-test .left))

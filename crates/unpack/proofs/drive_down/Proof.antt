@@ -93,6 +93,7 @@ drive-down-spec =
     (λ c κs. search needs)
     (λ c. omega (arith, small c))
     (λ c. small c)
+    (λ c. omega (arith, lower (c .before), small (c .before), c .before .wide .ensures))
     find-edge-requires
     (λ c. search needs)
     (λ c. search needs)
