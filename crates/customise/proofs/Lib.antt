@@ -1,5 +1,6 @@
 pub mod PlaceLaws
-pub mod TurnLaws
-pub mod TriangleLaws
 pub mod ArcLaws
+pub mod OfferLaws
+pub mod WaitLaws
+pub mod RowLaws
 pub mod WholeLaws

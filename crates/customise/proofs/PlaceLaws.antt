@@ -1,14 +1,14 @@
 -- The place of an edge, one store there, and what a store keeps. Assumes nothing.
 use Prim.Native.Nat.{ℕ, suc, _+_, _≤_, _<_, min}
-use mathlib.Core.Path.{_≡_, refl, sym, ap, _∙_, subst}
-use mathlib.Core.Logic.{_≢_}
+use mathlib.Core.Path.{_≡_, refl, ap, _∙_}
+use mathlib.Core.Logic.{_⊎_, inl, inr, _≢_}
 use mathlib.Core.List.{List}
 use native.Mathlib.Omega.{arith}
 use native.Mathlib.Numerals.{add-one}
-use lib.Dec.{eqb, ltb}
+use lib.Dec.{eqb}
 use lib.ListN.{length, getD, set, length-set}
 use lib.Seq.{getD-set-same, getD-set-other}
-use borrow.Author.Tests.{eqb-true, eqb-false, ltb-true, ltb-false}
+use borrow.Author.Tests.{eqb-true, eqb-false}
 use Rattle.rules.specs.declared.Cost.{Cost}
 use Rattle.rules.specs.declared.Found.the-variants.{At, Nothing}
 use Rattle.rules.specs.Costs.{sum, costOf, sumOf, leastOf}
@@ -16,7 +16,11 @@ use Rattle.theory.proofs.Laws.{either, split}
 use Rattle.theory.proofs.Rows.{InRow, Rows}
 use Rattle.lists.specs.Lent.{foundIn}
 use Rattle.lists.proofs.ListLaws.{Placed, found-placed, found-nowhere}
-use Rattle.customise.specs.Steps.{Kept, count, Ahead, NextPlace, Edge, Put}
+use Rattle.customise.specs.Steps.{Kept, count, Ahead, Edge, Put}
+
+-- two numbers are the same or not
+pub same-or-not : (a b : ℕ) → (a ≡ b) ⊎ (a ≢ b)
+same-or-not a b = either (split (eqb a b)) (λ e. inl (eqb-true a b e)) (λ e. inr (eqb-false a b e))
 
 -- the list l with v stored at place k
 pub record Stored (l : List ℕ) (k v : ℕ) (l′ : List ℕ) : Type 0 where
@@ -50,11 +54,6 @@ row-end first p = ap (λ i. getD first i 0) (add-one p)
 pub in-row-i : (first : List ℕ) (p k : ℕ) → getD first p 0 ≤ k → k < getD first (p + 1) 0 → InRow first p k
 in-row-i first p k a b = record { low = a; high = omega (arith, row-end first p) }
 
--- first has one entry more than there are rows
-pub count-is : {n : ℕ} {first heads : List ℕ} → Rows n first heads → count first ≡ n
-unfolding count
-count-is R = omega (arith, R .long)
-
 -- ---- the search for an edge that is there
 
 -- it does not answer "nothing"
@@ -68,38 +67,6 @@ pub ahead-placed : {heads : List ℕ} {from to y : ℕ} (k : ℕ) → Ahead head
 ahead-placed {heads} {from} {to} {y} k A e =
     let p = A .placed in
     found-placed heads from to y k e (omega (arith, p .low, p .high))
-
--- y stands at no place from `from` up to k
-pub record Passed (heads : List ℕ) (from y k : ℕ) : Type 0 where
-  pub low : from ≤ k
-  pub other : (i : ℕ) → from ≤ i → i < k → getD heads i 0 ≢ y
-
--- none passed yet
-pub passed-none : (heads : List ℕ) (from y : ℕ) → Passed heads from y from
-passed-none heads from y = record { low = omega arith; other = λ i h l. absurd (omega arith) }
-
--- one more
-pub passed-more : {heads : List ℕ} {from y k : ℕ} → Passed heads from y k → getD heads k 0 ≢ y → Passed heads from y (k + 1)
-passed-more {heads} {from} {y} {k} P d =
-    record {
-      low = omega (arith, P .low);
-      other = λ i h l.
-          either (split (eqb i k))
-          (λ e. subst (λ o. getD heads o 0 ≢ y) (sym (eqb-true i k e)) d)
-          (λ e. P .other i h (omega (arith, eqb-false i k e)));
-    }
-
--- what is ahead has not been passed
-pub still-ahead : {heads : List ℕ} {from to y k : ℕ} → Passed heads from y k → Ahead heads from to y → k < to
-still-ahead {k = k} P A =
-    let p = A .placed in
-    either (split (ltb (A .spot) k))
-    (λ e. absurd (P .other (A .spot) (p .low) (ltb-true (A .spot) k e) (p .there)))
-    (λ e. omega (arith, ltb-false (A .spot) k e, p .high))
-
--- so y is found where it stands first
-pub next-place : {heads : List ℕ} {from y k : ℕ} → Passed heads from y k → getD heads k 0 ≡ y → NextPlace heads from y k
-next-place P e = λ to A. record { low = P .low; high = still-ahead P A; there = e }
 
 -- ---- one cost stored
 

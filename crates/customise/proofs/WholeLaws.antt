@@ -1,6 +1,6 @@
 -- The whole: CLOSED everywhere, then all arcs, then all turns. Assumes nothing.
 use Prim.Native.Nat.{ℕ, _+_, _≤_, _<_}
-use mathlib.Core.Path.{_≡_, refl, sym, ap, _∙_, subst}
+use mathlib.Core.Path.{_≡_, refl, sym, ap, _∙_}
 use mathlib.Core.Logic.{_≢_}
 use mathlib.Core.List.{List}
 use native.Mathlib.Omega.{arith}
@@ -15,14 +15,13 @@ use Rattle.rules.specs.Hierarchy.{linked}
 use Rattle.rules.specs.Customised.{customised}
 use Rattle.rules.specs.Calls.{shortcutCost}
 use Rattle.theory.proofs.Laws.{either, split}
-use Rattle.theory.proofs.Rows.{Rows, in-heads}
-use Rattle.theory.proofs.Stages.{stage, stage-zero, stage-cost}
+use Rattle.theory.proofs.Rows.{Rows, count-is, in-heads}
 use Rattle.theory.proofs.LastArc.{lastBetween, last-zero, between-last}
 use Rattle.theory.proofs.HeldCosts.{list-of}
 use Rattle.theory.proofs.Accepted.{Accepted}
 use Rattle.theory.proofs.Standing.{road-small}
-use Rattle.customise.specs.Steps.{Stands, Kept, count, ArcFits, Laid, Room, Turned, CustomisedLists}
-use Rattle.customise.proofs.PlaceLaws.{stored, count-is}
+use Rattle.customise.specs.Steps.{Stands, Kept, count, ArcFits, Laid, Room, Shut, Turned, CustomisedLists}
+use Rattle.customise.proofs.PlaceLaws.{stored}
 use Rattle.customise.proofs.ArcLaws.{arc-fits, laid-holds}
 
 -- ---- CLOSED everywhere
@@ -95,6 +94,16 @@ stands-as {n} {first} {heads} f g R same s =
           record { rises = a .rises ∙ same p q h qn (λ e. omega arith); falls = a .falls ∙ same q p qn h (λ e. omega arith) };
     }
 
+-- from the roads' costs to the customised ones by all turns
+stands-all : {n : ℕ} {first heads up down up′ down′ : List ℕ} → count first ≡ n → (road : ℕ → ℕ → ℕ) → Shut road → Turned first heads 0 up down n up′ down′
+    → Stands n first heads road up down → Stands n first heads (customised (linked first heads) road) up′ down′
+stands-all c road shut t s =
+    let e = t .risen road shut (record {
+      rises = record { final = λ p k h l r. absurd (omega arith); roads = λ p k h l r. s .there p k (omega arith) r .rises };
+      falls = record { final = λ p k h l r. absurd (omega arith); roads = λ p k h l r. s .there p k (omega arith) r .falls };
+    }) in
+    record { there = λ p k h r. record { rises = e .rises .final p k h (omega arith) r; falls = e .falls .final p k h (omega arith) r } }
+
 -- the arcs below m have been laid
 pub record Laying (N : Net) (first heads : List ℕ) (ups downs m : ℕ) (up down : List ℕ) : Type 0 where
   pub within : m ≤ arcs N
@@ -154,6 +163,7 @@ module _ {N : Net} {rank first heads up₀ down₀ : List ℕ} (A : Accepted N r
       let c = count-is (A .rows-of) in
       record {
         rows = rw c (A .rows-of);
+        few = rw c (A .few);
         up-long = rw c (omega (arith, L .up-past .fits, L .up-past .long));
         down-long = rw c (omega (arith, L .down-past .fits, L .down-past .long));
       }
@@ -170,13 +180,9 @@ module _ {N : Net} {rank first heads up₀ down₀ : List ℕ} (A : Accepted N r
       let road = roadBetween N in
       let c : count first ≡ n = count-is R in
       let e : m ≡ arcs N = omega (arith, L .within) in
-      let begun : Stands n first heads (stage J road 0) up down =
-      stands-as (lastBetween N m) (stage J road 0) R
-      (λ a b h k d. rw e (sym (between-last N (A .seats) a b h k d) ∙ sym (stage-zero J road a b))) (L .stands) in
-      let ended : Stands n first heads (customised J road) up′ down′ =
-      stands-as (stage J road n) (customised J road) R (λ a b h k d. stage-cost J road n a b (omega arith))
-      (subst (λ i. Stands i first heads (stage J road n) up′ down′) c
-      (t .stands road (road-small A) (subst (λ i. Stands i first heads (stage J road 0) up down) (sym c) begun))) in
+      let begun : Stands n first heads road up down =
+      stands-as (lastBetween N m) road R (λ a b h k d. rw e (sym (between-last N (A .seats) a b h k d))) (L .stands) in
+      let ended : Stands n first heads (customised J road) up′ down′ = stands-all c road (road-small A) t begun in
       let up-past = past-kept (L .up-past) (rw c at (t .up-kept)) in
       let down-past = past-kept (L .down-past) (rw c at (t .down-kept)) in (
         list-of R (customised J road) Up (length up₀) up′ (up-past .long ∙ eu) (λ p k h r. ended .there p k h r .rises) (λ k h g. up-past .shut k h (omega arith)),

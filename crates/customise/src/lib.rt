@@ -1,13 +1,13 @@
 // Arc costs onto the shortcut graph, then lower triangles, for any hierarchy that the checks accept.
 
-ghost use Prim.Native.Nat.{_+_, _<_};
+ghost use Prim.Native.Nat.{_+_, _≤_, _<_};
 ghost use mathlib.Core.Path.{_≡_};
-ghost use lib.ListN.{length, replicate};
+ghost use lib.ListN.{length, getD, replicate};
 ghost use Rattle.rules.specs.Costs.{closed};
 ghost use Rattle.rules.specs.Net.{net};
 ghost use Rattle.theory.proofs.Accepted.{Accepted};
 ghost use Rattle.lists.proofs.ListLaws.{Placed};
-ghost use Rattle.customise.specs.Steps.{count, Ahead, Somewhere, NextPlace, Edge, Put, ArcFits, Laid, Corner, Lowered, Room, Beside, Onward, Turned, CustomisedLists};
+ghost use Rattle.customise.specs.Steps.{count, Ahead, Edge, Put, ArcFits, Laid, Turn, Spread, SameBelow, Corner, Lowered, Room, Beside, Crossed, Queued, Waiting, Turned, CustomisedLists};
 use lists::find_in_row;
 use lists::position_of;
 use rules::Cost;
@@ -35,18 +35,6 @@ fn edge_place(row_heads: &[u32], from: usize, to: usize, y: Position) -> usize
     let Found::At(k) = find_in_row(row_heads, from, to, y) else {
         return from;
     };
-    k
-}
-
-// The place of the edge to y, from `from` on: as there is one, no end need be watched for.
-fn place_ahead(row_heads: &[u32], from: usize, y: u32) -> usize
-    requires { ⌜ Somewhere (now «row_heads») from y ⌝ }
-    ensures { λ r. ⌜ NextPlace (now («row_heads» .entry)) from y r ⌝ }
-{
-    let mut k = from;
-    while row_heads[k] != y {
-        k += 1;
-    }
     k
 }
 
@@ -95,70 +83,113 @@ fn lay_arc(
     lay_cost(first, row_heads, down, y, x, cost);
 }
 
-// One lower triangle: the edge between two neighbours of a position, at places i and j of its row, costs no more than the way over it.
-fn lower_edge(
-    row_heads: &[u32],
-    up: &mut [u32],
-    down: &mut [u32],
-    i: usize,
-    j: usize,
-    from: usize,
-) -> usize
-    requires { ⌜ Corner (now «row_heads») (length (now up)) (length (now down)) i j from ⌝ }
-    ensures { λ r. ⌜ Lowered (now («row_heads» .entry)) i j from r (now (up .entry)) (now (down .entry)) (now (up .exit)) (now (down .exit)) ⌝ }
+// The row of x spread out: at each position that it holds, the place of the edge there; what stands at lower positions stays.
+fn spread_row(first: &[u32], row_heads: &[u32], x: usize, places: &mut [u32; 4096])
+    requires { ⌜ Turn (now first) (now «row_heads») x × (length (now places) ≡ 4096) ⌝ }
+    ensures { λ _. ⌜ Spread (now (first .entry)) (now («row_heads» .entry)) x (now (places .exit)) × SameBelow x (now (places .entry)) (now (places .exit)) ⌝ }
 {
-    let k = place_ahead(row_heads, from, row_heads[j]);
+    let end = wide(first[x + 1]);
+    let mut k = wide(first[x]);
+    while k < end {
+        let y = wide(row_heads[k]);
+        places[y] = k as u32;
+        k += 1;
+    }
+}
+
+// One lower triangle: the edge at place k, between the neighbours at places i and j of a row, costs no more than the way over the row's position.
+fn lower_edge(up: &mut [u32], down: &mut [u32], i: usize, j: usize, k: usize)
+    requires { ⌜ Corner (length (now up)) (length (now down)) i j k ⌝ }
+    ensures { λ _. ⌜ Lowered i j k (now (up .entry)) (now (down .entry)) (now (up .exit)) (now (down .exit)) ⌝ }
+{
     let rising = Cost::sum(Cost(down[i]), Cost(up[j]));
     let falling = Cost::sum(Cost(down[j]), Cost(up[i]));
     up[k] = Cost::least(Cost(up[k]), rising).0;
     down[k] = Cost::least(Cost(down[k]), falling).0;
-    k
 }
 
-// The triangles of z with its neighbour at place i and each higher one: both rows ascend, so the search goes on where the last edge was.
-fn lower_beside(
+// The triangles of z with its neighbour x at place i and each higher one: the row of x is spread out, so no edge is looked for.
+fn lower_over(
     first: &[u32],
     row_heads: &[u32],
     up: &mut [u32],
     down: &mut [u32],
+    places: &[u32; 4096],
     z: usize,
     i: usize,
 )
-    requires { ⌜ Beside (now first) (now «row_heads») (length (now up)) (length (now down)) z i ⌝ }
-    ensures { λ _. ⌜ Onward (now (first .entry)) (now («row_heads» .entry)) z i (i + 1) (now (up .entry)) (now (down .entry)) (i + 1) (i + 1 + 1) (now (up .exit)) (now (down .exit)) ⌝ }
+    requires { ⌜ Beside (now first) (now «row_heads») (length (now up)) (length (now down)) z i × Spread (now first) (now «row_heads») (getD (now «row_heads») i 0) (now places) ⌝ }
+    ensures { λ _. ⌜ Crossed (now (first .entry)) (now («row_heads» .entry)) i (getD (now (first .entry)) (z + 1) 0) (now (up .entry)) (now (down .entry)) (now (up .exit)) (now (down .exit)) ⌝ }
 {
     let end = wide(first[z + 1]);
-    let x = wide(row_heads[i]);
-    let mut from = wide(first[x]);
     let mut j = i + 1;
     while j < end {
-        from = lower_edge(row_heads, up, down, i, j, from) + 1;
+        let y = wide(row_heads[j]);
+        let k = wide(places[y]);
+        lower_edge(up, down, i, j, k);
         j += 1;
     }
 }
 
-// The turn of z: the triangles of z with each two of its neighbours.
-fn lower_over(first: &[u32], row_heads: &[u32], up: &mut [u32], down: &mut [u32], z: usize)
-    requires { ⌜ Room (now first) (now «row_heads») (length (now up)) (length (now down)) × (z < count (now first)) ⌝ }
-    ensures { λ _. ⌜ Turned (now (first .entry)) (now («row_heads» .entry)) z (now (up .entry)) (now (down .entry)) (z + 1) (now (up .exit)) (now (down .exit)) ⌝ }
+// The row of z waits for the turn of its entry at place i, in front of the rows that wait there; past its end it waits no more.
+fn queue_row(
+    first: &[u32],
+    row_heads: &[u32],
+    links: &mut [u32; 4096],
+    places: &mut [u32; 4096],
+    z: usize,
+    i: usize,
+)
+    requires { ⌜ Turn (now first) (now «row_heads») z × (getD (now first) z 0 ≤ i) × (i ≤ getD (now first) (z + 1) 0) ⌝ }
+    ensures { λ _. ⌜ Queued (now (first .entry)) (now («row_heads» .entry)) z i (now (links .entry)) (now (places .entry)) (now (links .exit)) (now (places .exit)) ⌝ }
 {
     let end = wide(first[z + 1]);
-    let mut i = wide(first[z]);
-    while i < end {
-        lower_beside(first, row_heads, up, down, z, i);
-        i += 1;
+    places[z] = i as u32;
+    if i < end {
+        let y = wide(row_heads[i]);
+        links[z] = links[y];
+        links[y] = (z + 1) as u32;
     }
 }
 
-// The turns of all positions, from the lowest up: what goes over z is final once z has its turn.
+// The turn of x: each lower row that waits for x goes on to wait for its next entry, and its triangles with x are taken.
+fn lower_row(
+    first: &[u32],
+    row_heads: &[u32],
+    up: &mut [u32],
+    down: &mut [u32],
+    links: &mut [u32; 4096],
+    places: &mut [u32; 4096],
+    x: usize,
+)
+    requires { ⌜ Room (now first) (now «row_heads») (length (now up)) (length (now down)) × Turn (now first) (now «row_heads») x × Spread (now first) (now «row_heads») x (now places) × Waiting (now first) (now «row_heads») x x x (count (now first)) (getD (now links) x 0) (now links) (now places) ⌝ }
+    ensures { λ _. ⌜ Turned (now (first .entry)) (now («row_heads» .entry)) x (now (up .entry)) (now (down .entry)) (x + 1) (now (up .exit)) (now (down .exit)) × Waiting (now (first .entry)) (now («row_heads» .entry)) x x (x + 1) (count (now (first .entry))) 0 (now (links .exit)) (now (places .exit)) ⌝ }
+{
+    let mut k = wide(links[x]);
+    while 0 < k {
+        let z = k - 1;
+        k = wide(links[z]);
+        let i = wide(places[z]);
+        queue_row(first, row_heads, links, places, z, i + 1);
+        lower_over(first, row_heads, up, down, places, z, i);
+    }
+}
+
+// The turns of all positions, from the lowest up: the costs of all lower rows are final then.
+// In the turn of x `links` has, below x, the next row that waits with this one, and from x on the first row that waits for this position, each
+// plus 1; `places` has, below x, where the row waits, and above x the place of the edge from x.
 fn lower_all(n: usize, first: &[u32], row_heads: &[u32], up: &mut [u32], down: &mut [u32])
     requires { ⌜ Room (now first) (now «row_heads») (length (now up)) (length (now down)) × (n ≡ count (now first)) ⌝ }
     ensures { λ _. ⌜ Turned (now (first .entry)) (now («row_heads» .entry)) 0 (now (up .entry)) (now (down .entry)) n (now (up .exit)) (now (down .exit)) ⌝ }
 {
-    let mut z = 0;
-    while z < n {
-        lower_over(first, row_heads, up, down, z);
-        z += 1;
+    let mut links = [0u32; 4096];
+    let mut places = [0u32; 4096];
+    let mut x = 0;
+    while x < n {
+        spread_row(first, row_heads, x, &mut places);
+        lower_row(first, row_heads, up, down, &mut links, &mut places, x);
+        queue_row(first, row_heads, &mut links, &mut places, x, wide(first[x]));
+        x += 1;
     }
 }
 

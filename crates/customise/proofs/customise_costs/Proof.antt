@@ -3,7 +3,7 @@ use Prim.Native.Nat.{_-_}
 use mathlib.Core.Path.{sym}
 use lib.ListN.{length}
 use Rattle.rules.specs.Net.{net}
-use Rattle.customise.proofs.PlaceLaws.{count-is}
+use Rattle.theory.proofs.Rows.{count-is}
 use Rattle.customise.proofs.WholeLaws.{closed-long, Laying, laying-start, laying-fits, laying-more, room, customised-all}
 use borrow.Author.Needs.{needs}
 use Rattle.customise.proofs.customise_costs.Statement.{statement}
