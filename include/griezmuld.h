@@ -30,7 +30,7 @@
  *
  * Stack
  *   What a call needs besides the lists it keeps on the stack. On the lists that ask most of it, measured on x86-64: build
- *   144 KiB, customise 16 KiB, distance 80 KiB, route 1,696 KiB. Of route's, some 220 KiB are always used; the rest is for
+ *   80 KiB, customise 48 KiB, distance 80 KiB, route 1,632 KiB. Of route's, some 160 KiB are always used; the rest is for
  *   shortcuts made of shortcuts, nearly 400 bytes for each inside another. They nest 4,000 deep only if the order is as bad as can
  *   be, but nothing forbids such an order: give the thread that calls route 2 MiB.
  *
