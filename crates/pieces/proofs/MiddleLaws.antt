@@ -209,24 +209,24 @@ pub record Searched (first heads up down : List ℕ) (a b from to : ℕ) : Type 
   pub start : from ≤ to
   pub skipped : (z : ℕ) → z < from → T (zFits (linked first heads) (held first heads up down) a b z) → ⊥
 
--- so it may start at the lowest lower neighbour of the low end: for a piece driven upward and for one driven downward
+-- so it may start at the lowest lower neighbour of the low end x, to which each z that fits is joined
+searched : {first heads low : List ℕ} (up down : List ℕ) → Lows first heads low → (a b x from : ℕ) → x < count first → x ≡ min a b
+    → ((z : ℕ) → T (test first heads up down a b z) → T (linked first heads z x)) → from ≡ getD low x 0 → Searched first heads up down a b from x
+searched {first} {heads} up down L a b x from h l joins e =
+    record {
+      low-end = l;
+      start = omega (arith, L .under x h);
+      skipped = λ z k t. omega (arith, L .under x h, L .reach z x (omega (arith, L .under x h)) (joins z t));
+    }
+
+-- for a piece driven upward, and for one driven downward
 pub searched-up : {first heads low : List ℕ} (up down : List ℕ) → Lows first heads low → (x y from : ℕ) → x < count first → x < y → from ≡ getD low x 0
     → Searched first heads up down x y from x
-searched-up {first} {heads} up down L x y from h l e =
-    record {
-      low-end = omega arith;
-      start = omega (arith, L .under x h);
-      skipped = λ z b t. omega (arith, L .under x h, L .reach z x (omega (arith, L .under x h)) (fits-joined first heads up down x y z t .0));
-    }
+searched-up {first} {heads} up down L x y from h l = searched up down L x y x from h (omega arith) (λ z t. fits-joined first heads up down x y z t .0)
 
 pub searched-down : {first heads low : List ℕ} (up down : List ℕ) → Lows first heads low → (x y from : ℕ) → x < count first → x < y → from ≡ getD low x 0
     → Searched first heads up down y x from x
-searched-down {first} {heads} up down L x y from h l e =
-    record {
-      low-end = omega arith;
-      start = omega (arith, L .under x h);
-      skipped = λ z b t. omega (arith, L .under x h, L .reach z x (omega (arith, L .under x h)) (fits-joined first heads up down y x z t .1));
-    }
+searched-down {first} {heads} up down L x y from h l = searched up down L y x x from h (omega arith) (λ z t. fits-joined first heads up down y x z t .1)
 
 module _ (first heads up down : List ℕ) (a b from to : ℕ) (S : Searched first heads up down a b from to) where
   -- the scan finds the lowest of all
