@@ -1,5 +1,7 @@
 -- Costs: "A cost brings its own constants: zero, the greatest arc cost, and CLOSED". Assumes nothing.
-use Prim.Native.Nat.{ℕ, min}
+use Prim.Native.Nat.{ℕ, _+_, min}
+use mathlib.Core.Bool.{Bool, cond, not, _&&_}
+use lib.Dec.{eqb}
 use Rattle.rules.specs.declared.Cost.{Cost}
 use Rattle.rules.specs.Words.{sumTo}
 
@@ -16,8 +18,16 @@ abbrev pub none : ℕ
 none = 18446744073709551615
 
 -- "A sum with CLOSED is CLOSED"
-abbrev pub sum : ℕ → ℕ → ℕ
+abbrev pub sum : (a b : ℕ) → ℕ
 sum a b = sumTo closed a b
+
+-- "whose costs are finite and add up to w": by a plain sum
+abbrev pub addUp : (a b w : ℕ) → Bool
+addUp a b w = not (eqb a closed) && not (eqb b closed) && eqb (a + b) w
+
+-- "label(q) + up cost of (q, p)"; "A CLOSED cost gives no label"
+abbrev pub labelOver : (label cost : ℕ) → ℕ
+labelOver label cost = cond (not (eqb cost closed)) (sumTo none label cost) none
 
 -- the cost that is a number, and the sum and the lesser of two costs
 abbrev pub costOf : ℕ → Cost

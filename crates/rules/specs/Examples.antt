@@ -6,9 +6,10 @@ use mathlib.Core.Bool.{Bool, true, false}
 use mathlib.Core.List.{List, [], _∷_, _++_}
 use lib.ListN.{length, replicate}
 use Rattle.rules.specs.Costs.{closed, sumOf, costOf}
-use Rattle.rules.specs.Replies.{Reply, refused, edges, done, far, drive, noWalk}
+use Rattle.rules.specs.Replies.{refused, edges, done, far, drive, noWalk}
 use Rattle.rules.specs.Net.{Net, net, rankList}
-use Rattle.rules.specs.Hierarchy.{isHierarchy}
+use Rattle.rules.specs.Graph.{graph}
+use Rattle.rules.specs.Hierarchy.{edgeCosts, isHierarchy}
 use Rattle.rules.specs.Calls.{BuildLeaves, CustomiseLeaves, RouteLeaves, buildLeaves, customiseLeaves, distanceLeaves, routeLeaves, buildLeft, customiseLeft, distanceLeft, routeLeft}
 
 -- what stands in the rooms before a call: no call may rely on it
@@ -16,57 +17,59 @@ abbrev pub stale : ℕ → List ℕ
 stale n = replicate n 77
 
 -- build into a room of heads
-unfoldable pub builtBy : Net → ℕ → BuildLeaves
+unfoldable pub builtBy : (N : Net) (room : ℕ) → BuildLeaves
 unfolding buildLeaves
 builtBy N room =
-    buildLeaves (N .tails) (N .heads) (N .order) (stale (length (N .order))) (stale (suc (length (N .order)))) (stale room)
+    buildLeaves (N .tails) (N .heads) (N .order) (stale (length (N .order)))
+    (graph (stale (suc (length (N .order)))) (stale room))
 
 -- build, then customise
-unfoldable pub customisedBy : Net → ℕ → CustomiseLeaves
+unfoldable pub customisedBy : (N : Net) (room : ℕ) → CustomiseLeaves
 unfolding builtBy customiseLeaves
 customisedBy N room =
     let b = builtBy N room in
-    customiseLeaves N (b .rank) (b .first) (b .heads) (stale room) (stale room)
+    customiseLeaves N (b .rank) (b .rows) (edgeCosts (stale room) (stale room))
 
 -- what an example claims of a net, with rooms of so many places
 pub data Claim : Type 0 where
-  hasRows : Net → ℕ → ℕ → List ℕ → List ℕ → Claim
-  hasCosts : Net → ℕ → List ℕ → List ℕ → Claim
-  goes : Net → ℕ → ℕ → ℕ → ℕ → List ℕ → Claim
-  nowhere : Net → ℕ → ℕ → ℕ → Claim
-  addsUp : ℕ → ℕ → ℕ → Claim
-  tested : List ℕ → List ℕ → List ℕ → List ℕ → Bool → Claim
-  builds : Net → List ℕ → List ℕ → List ℕ → BuildLeaves → Claim
-  customises : Net → List ℕ → List ℕ → List ℕ → List ℕ → List ℕ → CustomiseLeaves → Claim
-  drivesOn : Net → Net → ℕ → ℕ → ℕ → ℕ → RouteLeaves → Claim
+  hasRows : (N : Net) (room e : ℕ) (first heads : List ℕ) → Claim
+  hasCosts : (N : Net) (room : ℕ) (up down : List ℕ) → Claim
+  goes : (N : Net) (room from to d : ℕ) (arcs : List ℕ) → Claim
+  nowhere : (N : Net) (room from to : ℕ) → Claim
+  addsUp : (a b c : ℕ) → Claim
+  tested : (order rank first heads : List ℕ) (b : Bool) → Claim
+  builds : (N : Net) (rank first heads : List ℕ) (left : BuildLeaves) → Claim
+  customises : (N : Net) (rank first heads up down : List ℕ) (left : CustomiseLeaves) → Claim
+  drivesOn : (N M : Net) (room from to places : ℕ) (left : RouteLeaves) → Claim
 
 -- the claims' meaning. E, first and heads; the up and the down list; from one junction to another a distance and the arcs of the route, by
 -- distance and by route, with a place more than the route needs; no walk; the sum of two costs;
 -- whether an order, a rank list, first and heads are a hierarchy; what build and customise leave in any rooms; what route leaves in a room,
 -- where one net was customised and another is asked
 abbrev pub Holds : Claim → Type 0
-Holds (hasRows N room e first heads) = builtBy N room ≡ buildLeft (rankList (N .order)) first heads (edges e)
-Holds (hasCosts N room up down) = customisedBy N room ≡ customiseLeft up down done
+Holds (hasRows N room e first heads) = builtBy N room ≡ buildLeft (rankList (N .order)) (graph first heads) (edges e)
+Holds (hasCosts N room up down) = customisedBy N room ≡ customiseLeft (edgeCosts up down) done
 Holds (goes N room from to d arcs) =
     let b = builtBy N room in
     let c = customisedBy N room in
-    (distanceLeaves (N .order) (b .rank) (b .first) (b .heads) (c .up) (c .down) from to ≡ distanceLeft (far d))
-    × (routeLeaves N (b .rank) (b .first) (b .heads) (c .up) (c .down) from to (stale (suc (length arcs)))
+    (distanceLeaves (N .order) (b .rank) (b .rows) (c .costs) from to ≡ distanceLeft (far d))
+    × (routeLeaves N (b .rank) (b .rows) (c .costs) from to (stale (suc (length arcs)))
     ≡ routeLeft (arcs ++ (closed ∷ [])) (drive d (length arcs)))
 Holds (nowhere N room from to) =
     let b = builtBy N room in
     let c = customisedBy N room in
-    (distanceLeaves (N .order) (b .rank) (b .first) (b .heads) (c .up) (c .down) from to ≡ distanceLeft noWalk)
-    × (routeLeaves N (b .rank) (b .first) (b .heads) (c .up) (c .down) from to (stale 2)
+    (distanceLeaves (N .order) (b .rank) (b .rows) (c .costs) from to ≡ distanceLeft noWalk)
+    × (routeLeaves N (b .rank) (b .rows) (c .costs) from to (stale 2)
     ≡ routeLeft (closed ∷ closed ∷ []) noWalk)
 Holds (addsUp a b c) = sumOf (costOf a) (costOf b) ≡ costOf c
-Holds (tested order rank first heads b) = isHierarchy order rank first heads ≡ b
-Holds (builds N rank first rowHeads left) = buildLeaves (N .tails) (N .heads) (N .order) rank first rowHeads ≡ left
-Holds (customises N rank first rowHeads up down left) = customiseLeaves N rank first rowHeads up down ≡ left
+Holds (tested order rank first heads b) = isHierarchy order rank (graph first heads) ≡ b
+Holds (builds N rank first heads left) = buildLeaves (N .tails) (N .heads) (N .order) rank (graph first heads) ≡ left
+Holds (customises N rank first heads up down left) =
+    customiseLeaves N rank (graph first heads) (edgeCosts up down) ≡ left
 Holds (drivesOn N M room from to places left) =
     let b = builtBy N room in
     let c = customisedBy N room in
-    routeLeaves M (b .rank) (b .first) (b .heads) (c .up) (c .down) from to (stale places) ≡ left
+    routeLeaves M (b .rank) (b .rows) (c .costs) from to (stale places) ≡ left
 
 -- every claim of a list holds
 abbrev pub AllHold : List Claim → Type 0
@@ -167,20 +170,20 @@ ours =
     -- "every entry of a row but its first stands in the parent's row too"
     ∷ tested (0 ∷ 1 ∷ 2 ∷ []) (0 ∷ 1 ∷ 2 ∷ []) (0 ∷ 2 ∷ 2 ∷ 2 ∷ []) (1 ∷ 2 ∷ []) false
     -- "n = 1, no arcs: first 0 0, E = 0, accepted. n = 0: 1."
-    ∷ builds (net [] [] [] (0 ∷ [])) (7 ∷ []) (7 ∷ 7 ∷ []) [] (buildLeft (0 ∷ []) (0 ∷ 0 ∷ []) [] (edges 0))
-    ∷ builds (net [] [] [] []) (7 ∷ []) (7 ∷ 7 ∷ []) [] (buildLeft (7 ∷ []) (7 ∷ 7 ∷ []) [] (refused 1 0))
+    ∷ builds (net [] [] [] (0 ∷ [])) (7 ∷ []) (7 ∷ 7 ∷ []) [] (buildLeft (0 ∷ []) (graph (0 ∷ 0 ∷ []) []) (edges 0))
+    ∷ builds (net [] [] [] []) (7 ∷ []) (7 ∷ 7 ∷ []) [] (buildLeft (7 ∷ []) (graph (7 ∷ 7 ∷ []) []) (refused 1 0))
     -- "Heads room 4 for N4: 6", and "after 6 rank, first and heads are all 0"
     ∷ builds n4 (stale 4) (stale 5) (stale 4)
-    (buildLeft (0 ∷ 0 ∷ 0 ∷ 0 ∷ []) (0 ∷ 0 ∷ 0 ∷ 0 ∷ 0 ∷ []) (0 ∷ 0 ∷ 0 ∷ 0 ∷ []) (refused 6 0))
+    (buildLeft (0 ∷ 0 ∷ 0 ∷ 0 ∷ []) (graph (0 ∷ 0 ∷ 0 ∷ 0 ∷ 0 ∷ []) (0 ∷ 0 ∷ 0 ∷ 0 ∷ [])) (refused 6 0))
     -- "an order entry is n or more, or was seen earlier": the later position, and the lists stay unchanged
-    ∷ builds (net [] [] [] (1 ∷ 0 ∷ 1 ∷ [])) (7 ∷ 7 ∷ 7 ∷ []) (7 ∷ 7 ∷ 7 ∷ 7 ∷ []) [] (buildLeft (7 ∷ 7 ∷ 7 ∷ []) (7 ∷ 7 ∷ 7 ∷ 7 ∷ []) [] (refused 4 2))
+    ∷ builds (net [] [] [] (1 ∷ 0 ∷ 1 ∷ [])) (7 ∷ 7 ∷ 7 ∷ []) (7 ∷ 7 ∷ 7 ∷ 7 ∷ []) [] (buildLeft (7 ∷ 7 ∷ 7 ∷ []) (graph (7 ∷ 7 ∷ 7 ∷ 7 ∷ []) []) (refused 4 2))
     -- "Cost 500,000 accepted, 500,001: 9, 0: 9"; CLOSED is accepted
-    ∷ customises (oneArc 500000) (0 ∷ 1 ∷ []) (0 ∷ 1 ∷ 1 ∷ []) (1 ∷ []) (7 ∷ []) (7 ∷ []) (customiseLeft (500000 ∷ []) (closed ∷ []) done)
-    ∷ customises (oneArc 500001) (0 ∷ 1 ∷ []) (0 ∷ 1 ∷ 1 ∷ []) (1 ∷ []) (7 ∷ []) (7 ∷ []) (customiseLeft (7 ∷ []) (7 ∷ []) (refused 9 0))
-    ∷ customises (oneArc 0) (0 ∷ 1 ∷ []) (0 ∷ 1 ∷ 1 ∷ []) (1 ∷ []) (7 ∷ []) (7 ∷ []) (customiseLeft (7 ∷ []) (7 ∷ []) (refused 9 0))
-    ∷ customises (oneArc closed) (0 ∷ 1 ∷ []) (0 ∷ 1 ∷ 1 ∷ []) (1 ∷ []) (7 ∷ []) (7 ∷ []) (customiseLeft (closed ∷ []) (closed ∷ []) done)
+    ∷ customises (oneArc 500000) (0 ∷ 1 ∷ []) (0 ∷ 1 ∷ 1 ∷ []) (1 ∷ []) (7 ∷ []) (7 ∷ []) (customiseLeft (edgeCosts (500000 ∷ []) (closed ∷ [])) done)
+    ∷ customises (oneArc 500001) (0 ∷ 1 ∷ []) (0 ∷ 1 ∷ 1 ∷ []) (1 ∷ []) (7 ∷ []) (7 ∷ []) (customiseLeft (edgeCosts (7 ∷ []) (7 ∷ [])) (refused 9 0))
+    ∷ customises (oneArc 0) (0 ∷ 1 ∷ []) (0 ∷ 1 ∷ 1 ∷ []) (1 ∷ []) (7 ∷ []) (7 ∷ []) (customiseLeft (edgeCosts (7 ∷ []) (7 ∷ [])) (refused 9 0))
+    ∷ customises (oneArc closed) (0 ∷ 1 ∷ []) (0 ∷ 1 ∷ 1 ∷ []) (1 ∷ []) (7 ∷ []) (7 ∷ []) (customiseLeft (edgeCosts (closed ∷ []) (closed ∷ [])) done)
     -- "Customise: 1, 2, 3, 4, 7, 8, 9, 10": an arc without an edge and of cost 0, in lists too short: 8
-    ∷ customises (oneArc 0) (0 ∷ 1 ∷ []) (0 ∷ 0 ∷ 0 ∷ []) [] [] [] (customiseLeft [] [] (refused 8 0))
+    ∷ customises (oneArc 0) (0 ∷ 1 ∷ []) (0 ∷ 0 ∷ 0 ∷ []) [] [] [] (customiseLeft (edgeCosts [] []) (refused 8 0))
     -- "N4 customised, then arc 2's cost set to 3 with nothing redone, route 1 to 3: room 3 or 2 gives 13, room 1 gives 12"
     ∷ drivesOn n4 (n4With 3) 6 1 3 3 (routeLeft (closed ∷ closed ∷ closed ∷ []) (refused 13 0))
     ∷ drivesOn n4 (n4With 3) 6 1 3 2 (routeLeft (closed ∷ closed ∷ []) (refused 13 0))

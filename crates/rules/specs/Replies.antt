@@ -16,11 +16,11 @@ use Rattle.rules.specs.Costs.{none}
 -- "A refusal returns its number and place and no distance"; build replies E; customise is done; distance replies a distance or "none";
 -- route replies distance and number of arcs, or "none"
 pub data Reply : Type 0 where
-  refused : ℕ → ℕ → Reply
+  refused : (number place : ℕ) → Reply
   edges : ℕ → Reply
   done : Reply
   far : ℕ → Reply
-  drive : ℕ → ℕ → Reply
+  drive : (distance arcs : ℕ) → Reply
   noWalk : Reply
 
 -- "Numbers of refusal": the column "No."

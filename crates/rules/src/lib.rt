@@ -1,8 +1,9 @@
 // The paper's words as types: what a cost, a junction, a position, a direction, a refusal and each call's answer are.
 // What each means is defined in specs/, one definition for one sentence of the paper.
 
+ghost use Prim.Native.Nat.{_<_};
 ghost use mathlib.Core.Path.{_≡_};
-ghost use Rattle.rules.specs.Costs.{sumOf, leastOf};
+ghost use Rattle.rules.specs.Costs.{sumOf, leastOf, addUp, labelOver};
 ghost use Rattle.rules.specs.Replies.{refusalNumber, refusalPlace, buildReply, customiseReply, distanceReply, routeReply, numberTold, placeTold, edgesTold, distanceTold, arcsTold};
 
 // A number of a list as an index.
@@ -18,6 +19,9 @@ pub fn wide16(x: u16) -> usize
 {
     x as usize
 }
+
+// The label of a position that has none, and the distance where no walk leads.
+pub const NONE: u64 = 18446744073709551615;
 
 // A cost in tenths of a second, or CLOSED.
 pub struct Cost(pub u32);
@@ -49,6 +53,30 @@ impl Cost {
             return a;
         }
         b
+    }
+
+    // Two costs are finite and add up to a third: as 64-bit numbers, so that no sum wraps round.
+    pub fn add_up(a: Cost, b: Cost, w: Cost) -> bool
+        ensures { λ r. ⌜ r ≡ addUp (a .0) (b .0) (w .0) ⌝ }
+    {
+        if a.0 == Cost::CLOSED.0 {
+            return false;
+        }
+        if b.0 == Cost::CLOSED.0 {
+            return false;
+        }
+        a.0 as u64 + b.0 as u64 == w.0 as u64
+    }
+
+    // A label with this cost added: CLOSED gives none. A label is far below the number for none: at most 4,095 costs make one.
+    pub fn over_label(self, label: u64) -> u64
+        requires { ⌜ label < 17592186044416 ⌝ }
+        ensures { λ r. ⌜ r ≡ labelOver label (self .0) ⌝ }
+    {
+        if self.0 == Cost::CLOSED.0 {
+            return NONE;
+        }
+        label + self.0 as u64
     }
 }
 
@@ -237,13 +265,13 @@ impl DistanceAnswer {
         }
     }
 
-    // The distance, 18446744073709551615 for none, 0 after a refusal.
+    // The distance, NONE where no walk leads, 0 after a refusal.
     pub fn distance(self) -> u64
         ensures { λ r. ⌜ r ≡ distanceTold (distanceReply self) ⌝ }
     {
         match self {
             DistanceAnswer::Tenths(d) => d,
-            DistanceAnswer::NoWalk => 18446744073709551615,
+            DistanceAnswer::NoWalk => NONE,
             DistanceAnswer::Refused(_) => 0,
         }
     }
@@ -278,13 +306,13 @@ impl RouteAnswer {
         }
     }
 
-    // The distance, 18446744073709551615 for none, 0 after a refusal.
+    // The distance, NONE where no walk leads, 0 after a refusal.
     pub fn distance(self) -> u64
         ensures { λ r. ⌜ r ≡ distanceTold (routeReply self) ⌝ }
     {
         match self {
             RouteAnswer::Drive { distance, arcs: _ } => distance,
-            RouteAnswer::NoWalk => 18446744073709551615,
+            RouteAnswer::NoWalk => NONE,
             RouteAnswer::Refused(_) => 0,
         }
     }
