@@ -6,7 +6,7 @@ use native.Mathlib.Omega.{arith}
 use lib.Dec.{eqb}
 use borrow.Author.Tests.{eqb-true, eqb-false}
 use Rattle.rules.specs.Words.{least, lowest}
-use Rattle.theory.proofs.Laws.{either, split, least-start, least-le, lowest-is, eqb-e, eqb-i}
+use Rattle.theory.proofs.Words.{either, split, least-start, least-le, lowest-is, eqb-e, eqb-i}
 
 -- best is the least of top and what f gives below i, and if it is below the top, `at` is the lowest number that gives it
 pub record Best (f : ℕ → ℕ) (top i best at : ℕ) : Type 0 where

@@ -1,19 +1,20 @@
 -- The rows of the graph: what stands in them, that they ascend, and the row of a position out of its children's rows. Assumes nothing.
 use Prim.Native.Nat.{ℕ, zero, suc, _-_, _≤_, _<_}
-use mathlib.Core.Path.{_≡_, refl, sym, ap}
+use mathlib.Core.Path.{_≡_, refl, sym}
 use mathlib.Core.Logic.{_⊎_, inl, inr, _≢_}
 use mathlib.Core.Bool.{Bool, _&&_}
 use mathlib.Core.List.{List, [], _∷_}
 use native.Mathlib.Omega.{arith}
 use lib.Dec.{T, eqb}
-use lib.ListN.{length, getD}
+use lib.ListN.{getD}
 use borrow.Author.Tests.{eqb-true, eqb-false}
 use Rattle.rules.specs.Words.{those, has}
 use Rattle.rules.specs.Net.{Net, size, twoPositions}
-use Rattle.rules.specs.Graph.{arcJoins, joined, row}
+use Rattle.rules.specs.Graph.{arcJoins, joined, row, parentOf}
 use Rattle.rules.specs.Hierarchy.{ascends}
-use Rattle.theory.proofs.Laws.{split, either, and-l, and-r, and-i, ltb-e, leb-e, leb-i, has-here, has-there, has-nil, has-cons, at-has, those-e, those-i}
-use Rattle.theory.proofs.Game.{two-i, joined-two, joined-arc, joined-third, joined-made}
+use Rattle.theory.proofs.Words.{split, either, and-l, and-r, and-i, ltb-e, leb-e, leb-i, has-here, has-nil, has-cons, has-at, those-e, those-i}
+use Rattle.theory.proofs.Rows.{ascends-in}
+use Rattle.theory.proofs.Joined.{two-i, joined-two, joined-arc, joined-third, joined-made}
 
 -- ---- lists that ascend
 
@@ -29,29 +30,7 @@ ascends-i lo n q qs l h t = search (and-i, leb-i)
 
 -- every entry is in range
 pub ascends-has : (lo n q : ℕ) (xs : List ℕ) → T (ascends lo n xs) → T (has xs q) → (lo ≤ q) × (q < n)
-ascends-has lo n q [] t h = absurd (has-nil q h)
-ascends-has lo n q (x ∷ xs) t h =
-    let (l, k, u) = ascends-e lo n x xs t in
-    either (has-cons x q xs h)
-    (λ e. (omega arith, omega arith))
-    (λ g. let (m, j) = ascends-has (suc x) n q xs u g in (omega arith, j))
-
--- two lists that ascend and have the same entries are the same list: so a row made another way is the row
-pub rises-same : (lo lo′ n : ℕ) (xs ys : List ℕ) → T (ascends lo n xs) → T (ascends lo′ n ys) → ((q : ℕ) → T (has xs q) → T (has ys q)) → ((q : ℕ) → T (has ys q) → T (has xs q)) → xs ≡ ys
-rises-same lo lo′ n [] [] s t f g = refl
-rises-same lo lo′ n [] (y ∷ ys) s t f g = absurd (has-nil y (g y (has-here y y ys refl)))
-rises-same lo lo′ n (x ∷ xs) [] s t f g = absurd (has-nil x (f x (has-here x x xs refl)))
-rises-same lo lo′ n (x ∷ xs) (y ∷ ys) s t f g =
-    let (a, b, u) = ascends-e lo n x xs s in
-    let (c, d, v) = ascends-e lo′ n y ys t in
-    let low : y ≤ x = either (has-cons y x ys (f x (has-here x x xs refl))) (λ e. omega arith) (λ h. omega (arith, ascends-has (suc y) n x ys v h)) in
-    let high : x ≤ y = either (has-cons x y xs (g y (has-here y y ys refl))) (λ e. omega arith) (λ h. omega (arith, ascends-has (suc x) n y xs u h)) in
-    let e : x ≡ y = omega arith in
-    rw e
-    (ap (λ l. y ∷ l)
-    (rises-same (suc x) (suc y) n xs ys u v
-    (λ q h. either (has-cons y q ys (f q (has-there x q xs h))) (λ i. absurd (omega (arith, ascends-has (suc x) n q xs u h))) (λ i. i))
-    (λ q h. either (has-cons x q xs (g q (has-there y q ys h))) (λ i. absurd (omega (arith, ascends-has (suc y) n q ys v h))) (λ i. i))))
+ascends-has lo n q xs t h = let (k, l, e) = has-at xs q h in rw e at (ascends-in lo n xs k t l)
 
 -- those that pass ascend
 those-ascends : (f : ℕ → Bool) (lo i k n : ℕ) → lo ≤ i → k ≤ n - i → T (ascends lo n (those f i k))
@@ -68,11 +47,6 @@ first-lowest lo n d q [] t h = absurd (has-nil q h)
 first-lowest lo n d q (x ∷ xs) t h =
     let (a, b, u) = ascends-e lo n x xs t in
     (has-here x x xs refl, either (has-cons x q xs h) (λ e. omega arith) (λ g. omega (arith, ascends-has (suc x) n q xs u g)))
-
--- "A position's parent is the lowest entry of its row"; the number of positions if the row is empty
-unfoldable pub parentOf : Net → ℕ → ℕ
-unfolding row
-parentOf N c = getD (row N c) 0 (size N)
 
 module _ (N : Net) where
   -- ---- rows
@@ -108,23 +82,6 @@ module _ (N : Net) where
       let (h, j) = row-e c (parentOf N c) u in
       let (k, i) = row-e c q t in
       row-i (parentOf N c) q (omega arith) (joined-third N c (parentOf N c) q h k (λ e. d (sym e)) j i)
-
-  -- the parent of a row that is not empty: above, of the net, joined, in the row
-  pub parent-row : (c : ℕ) → 0 < length (row N c) → (c < parentOf N c) × (parentOf N c < size N) × T (joined N c (parentOf N c)) × T (has (row N c) (parentOf N c))
-  parent-row c h =
-      let (u, l) = parent-lowest c (getD (row N c) 0 0) (at-has (row N c) 0 h) in
-      let (k, j) = row-e c (parentOf N c) u in
-      let (a, b, d) = joined-two N c (parentOf N c) j in
-      (k, b, j, u)
-
-  -- a row whose parent is a position is not empty
-  pub row-filled : (c : ℕ) → parentOf N c < size N → 0 < length (row N c)
-  unfolding parentOf
-  row-filled c h = by (row N c) h
-    where
-      by : (xs : List ℕ) → getD xs 0 (size N) < size N → 0 < length xs
-      by [] k = absurd (omega arith)
-      by (x ∷ xs) k = omega arith
 
   -- ---- the row of p is its arc neighbours above it and its children's rows less p
 

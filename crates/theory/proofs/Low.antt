@@ -1,12 +1,11 @@
 -- Ways that keep below their two ends: such a way joins its ends (the fill-path lemma), the customised cost is the least walk of that kind,
 -- and so it is no more than what simple walks cost. Assumes nothing.
-use Prim.Native.Nat.{ℕ, _+_, _*_, _≤_, _<_, min}
+use Prim.Native.Nat.{ℕ, _+_, _*_, _≤_, _<_}
 use native.Mathlib.Omega.{arith}
 use native.Mathlib.Decide.{ℕ-discrete}
 use mathlib.Core.Path.{_≡_, refl, sym}
 use mathlib.Core.Logic.{_⊎_, inl, inr, _≢_, by-cases}
-use Rattle.theory.proofs.Ways.{Way, stay, go, Walk, LowWalk, Within, Low, Up, UpDown, turned}
-use Rattle.theory.proofs.Ways.{Joins, Customised, Meshed, Labels, Meets, up-down, meshed, low, shortest}
+use Rattle.theory.proofs.Ways.{Way, stay, go, Walk, LowWalk, Within, Low, Up, UpDown, turned, Joins, Customised, Meshed, Labels, Meets, up-down, meshed, low, shortest}
 use Rattle.theory.proofs.Simple.{bounded}
 
 -- what is meshed stays so within any places
@@ -56,13 +55,6 @@ module _ {Ω n : ℕ} {road : ℕ → ℕ → ℕ} {joined : ℕ → ℕ → Typ
   -- an open road leads to one of the n places
   leads-below : (u v : ℕ) → road u v < Ω → v < n
   leads-below u v r = J .below (J .turn (J .roads r))
-
-  -- the fill-path lemma: a way along joined pairs that keeps below both its ends joins them
-  pub fill : {toll : ℕ → ℕ → ℕ} {a b w : ℕ} → a ≢ b → Way (Within (Low a b) joined) toll a b w → joined a b
-  fill {toll} ne p = low-way free (λ u v j. (j, omega arith)) ne p .0
-    where
-      free : Meshed joined (λ u v. 0)
-      free = record { turn = J .turn; apart = J .apart; third = J .third; over = λ {z} {a} {b} l h ne i j. omega arith }
 
   module _ {cost : ℕ → ℕ → ℕ} (C : Customised Ω road joined cost) where
     -- with `low`: the customised cost is the least walk that keeps below both ends

@@ -1,6 +1,6 @@
 -- Each promise allows one outcome: the paper's numbers tell the answers apart, so reply and lent lists are determined. Assumes nothing.
 use Prim.Native.Nat.{ℕ}
-use mathlib.Core.Path.{_≡_, refl, sym, ap, ap₂, _∙_}
+use mathlib.Core.Path.{_≡_, refl, sym, ap, _∙_}
 use mathlib.Core.List.{List, [], _∷_}
 use lib.ListN.{getD}
 use Rattle.rules.specs.declared.Refusal.{Refusal}
@@ -16,11 +16,13 @@ use Rattle.rules.specs.declared.RouteAnswer.the-variants as route
 use Rattle.rules.specs.Net.{Net}
 use Rattle.rules.specs.Replies.{Reply, refused, edges, done, far, drive, noWalk, refusalNumber, refusalPlace, buildReply, customiseReply, distanceReply, routeReply}
 use Rattle.rules.specs.Calls.{BuildLeaves, buildLeft, buildLeaves, CustomiseLeaves, customiseLeft, customiseLeaves, DistanceLeaves, distanceLeft, distanceLeaves, RouteLeaves, routeLeft, routeLeaves}
+use Rattle.rules.specs.Graph.{Graph}
+use Rattle.rules.specs.Hierarchy.{EdgeCosts}
 
 -- ---- refusals
 
 -- the refusal that a number and a place tell
-abbrev refusalOf : ℕ → ℕ → Refusal
+abbrev pub refusalOf : (number place : ℕ) → Refusal
 refusalOf number place =
     getD
     (JunctionCount
@@ -42,7 +44,8 @@ refusalOf number place =
     number
     JunctionCount
 
-refusal-back : (r : Refusal) → refusalOf (refusalNumber r) (refusalPlace r) ≡ r
+-- number and place tell it back
+pub refusal-back : (r : Refusal) → refusalOf (refusalNumber r) (refusalPlace r) ≡ r
 refusal-back JunctionCount = refl
 refusal-back ArcLists = refl
 refusal-back (ArcEnd arc) = refl
@@ -58,14 +61,10 @@ refusal-back RouteRoom = refl
 refusal-back PieceFitsNothing = refl
 refusal-back (Text line) = refl
 
--- number and place tell refusals apart
-pub refusals-apart : (a b : Refusal) → refusalNumber a ≡ refusalNumber b → refusalPlace a ≡ refusalPlace b → a ≡ b
-refusals-apart a b e d = sym (refusal-back a) ∙ ap₂ refusalOf e d ∙ refusal-back b
-
 -- ---- answers
 
 -- a reply read back: what to make of a refusal, of one number, of two and of none
-abbrev readReply : {A : Type 0} → (Refusal → A) → (ℕ → A) → (ℕ → ℕ → A) → A → Reply → A
+abbrev readReply : {A : Type 0} (refuse : Refusal → A) (one : ℕ → A) (two : ℕ → ℕ → A) (bare : A) (reply : Reply) → A
 readReply refuse one two bare (refused k p) = refuse (refusalOf k p)
 readReply refuse one two bare (edges e) = one e
 readReply refuse one two bare done = bare
@@ -102,46 +101,40 @@ route-answers =
 -- ---- outcomes
 
 -- whatever build is lent, its promise allows one outcome: answer, rank, first and heads
-pub build-determined : (tails heads order rank₀ first₀ rowHeads₀ : List ℕ)
-    (r r′ : BuildAnswer) (rank rank′ first first′ rowHeads rowHeads′ : List ℕ)
-    → buildLeft rank first rowHeads (buildReply r) ≡ buildLeaves tails heads order rank₀ first₀ rowHeads₀
-    → buildLeft rank′ first′ rowHeads′ (buildReply r′) ≡ buildLeaves tails heads order rank₀ first₀ rowHeads₀
-    → (r ≡ r′) × (rank ≡ rank′) × (first ≡ first′) × (rowHeads ≡ rowHeads′)
-build-determined tails heads order rank₀ first₀ rowHeads₀ r r′ rank rank′ first first′ rowHeads rowHeads′ e e′ =
+pub build-determined : (tails heads order rank₀ : List ℕ) (G₀ : Graph) (r r′ : BuildAnswer) (rank rank′ : List ℕ) (G G′ : Graph)
+    → buildLeft rank G (buildReply r) ≡ buildLeaves tails heads order rank₀ G₀
+    → buildLeft rank′ G′ (buildReply r′) ≡ buildLeaves tails heads order rank₀ G₀
+    → (r ≡ r′) × (rank ≡ rank′) × (G ≡ G′)
+build-determined tails heads order rank₀ G₀ r r′ rank rank′ G G′ e e′ =
     let s = e ∙ sym e′ in (
       build-answers r r′ (ap (λ (x : BuildLeaves). x .reply) s),
       ap (λ (x : BuildLeaves). x .rank) s,
-      ap (λ (x : BuildLeaves). x .first) s,
-      ap (λ (x : BuildLeaves). x .heads) s,
+      ap (λ (x : BuildLeaves). x .rows) s,
     )
 
 -- customise's promise: answer, up and down
-pub customise-determined : (N : Net) (rank first rowHeads up₀ down₀ : List ℕ)
-    (r r′ : CustomiseAnswer) (up up′ down down′ : List ℕ)
-    → customiseLeft up down (customiseReply r) ≡ customiseLeaves N rank first rowHeads up₀ down₀
-    → customiseLeft up′ down′ (customiseReply r′) ≡ customiseLeaves N rank first rowHeads up₀ down₀
-    → (r ≡ r′) × (up ≡ up′) × (down ≡ down′)
-customise-determined N rank first rowHeads up₀ down₀ r r′ up up′ down down′ e e′ =
-    let s = e ∙ sym e′ in (
-      customise-answers r r′ (ap (λ (x : CustomiseLeaves). x .reply) s),
-      ap (λ (x : CustomiseLeaves). x .up) s,
-      ap (λ (x : CustomiseLeaves). x .down) s,
-    )
+pub customise-determined : (N : Net) (rank : List ℕ) (G : Graph) (C₀ : EdgeCosts) (r r′ : CustomiseAnswer) (C C′ : EdgeCosts)
+    → customiseLeft C (customiseReply r) ≡ customiseLeaves N rank G C₀
+    → customiseLeft C′ (customiseReply r′) ≡ customiseLeaves N rank G C₀
+    → (r ≡ r′) × (C ≡ C′)
+customise-determined N rank G C₀ r r′ C C′ e e′ =
+    let s = e ∙ sym e′ in
+    (customise-answers r r′ (ap (λ (x : CustomiseLeaves). x .reply) s), ap (λ (x : CustomiseLeaves). x .costs) s)
 
 -- distance's promise: the answer
-pub distance-determined : (order rank first rowHeads up down : List ℕ) (from to : ℕ) (r r′ : DistanceAnswer)
-    → distanceLeft (distanceReply r) ≡ distanceLeaves order rank first rowHeads up down from to
-    → distanceLeft (distanceReply r′) ≡ distanceLeaves order rank first rowHeads up down from to
+pub distance-determined : (order rank : List ℕ) (G : Graph) (C : EdgeCosts) (from to : ℕ) (r r′ : DistanceAnswer)
+    → distanceLeft (distanceReply r) ≡ distanceLeaves order rank G C from to
+    → distanceLeft (distanceReply r′) ≡ distanceLeaves order rank G C from to
     → r ≡ r′
-distance-determined order rank first rowHeads up down from to r r′ e e′ =
+distance-determined order rank G C from to r r′ e e′ =
     distance-answers r r′ (ap (λ (x : DistanceLeaves). x .reply) (e ∙ sym e′))
 
 -- route's promise: answer and route
-pub route-determined : (N : Net) (rank first rowHeads up down : List ℕ) (from to : ℕ) (route₀ : List ℕ)
+pub route-determined : (N : Net) (rank : List ℕ) (G : Graph) (C : EdgeCosts) (from to : ℕ) (route₀ : List ℕ)
     (r r′ : RouteAnswer) (route route′ : List ℕ)
-    → routeLeft route (routeReply r) ≡ routeLeaves N rank first rowHeads up down from to route₀
-    → routeLeft route′ (routeReply r′) ≡ routeLeaves N rank first rowHeads up down from to route₀
+    → routeLeft route (routeReply r) ≡ routeLeaves N rank G C from to route₀
+    → routeLeft route′ (routeReply r′) ≡ routeLeaves N rank G C from to route₀
     → (r ≡ r′) × (route ≡ route′)
-route-determined N rank first rowHeads up down from to route₀ r r′ route route′ e e′ =
+route-determined N rank G C from to route₀ r r′ route route′ e e′ =
     let s = e ∙ sym e′ in
     (route-answers r r′ (ap (λ (x : RouteLeaves). x .reply) s), ap (λ (x : RouteLeaves). x .route) s)

@@ -5,11 +5,11 @@ use native.Mathlib.Nat.{suc-mul, mul-le-mul-right}
 use native.Mathlib.Omega.{arith}
 use native.Mathlib.Decide.{ℕ-discrete}
 use mathlib.Core.Path.{_≡_, refl, sym, ap, _∙_}
-use mathlib.Core.Logic.{_≢_, ⊎-elim, by-cases}
+use mathlib.Core.Logic.{⊎-elim, by-cases}
 use mathlib.Core.List.{List, [], _∷_, List·Memᴰ as In, List·Memᴰ·head as first, List·Memᴰ·tail as then, List·Memᴰ·not-nil as not-in-empty}
 use mathlib.Core.List.{List·Memᴰ·cases-cons as first-or-then, List·Memᴰ·eq-of-singleton as the-one, Memᴰ·cast as same-in}
-use lib.ListN.{length, getD}
-use Rattle.theory.proofs.Ways.{Way, stay, go, Within}
+use lib.ListN.{length}
+use Rattle.theory.proofs.Ways.{Way, stay, go}
 
 -- nothing stands twice in the list
 pub data Apart : List ℕ → Type 0 where
@@ -17,7 +17,7 @@ pub data Apart : List ℕ → Type 0 where
   more : {x : ℕ} {xs : List ℕ} → (In x xs → ⊥) → Apart xs → Apart (x ∷ xs)
 
 -- each number of the list is below n
-abbrev pub Under : ℕ → List ℕ → Type 0
+abbrev pub Under : (n : ℕ) (xs : List ℕ) → Type 0
 Under n xs = (x : ℕ) → In x xs → x < n
 
 -- one more number below n in front
@@ -67,26 +67,6 @@ stands x (y ∷ ys) =
     (λ e. yes (first e))
     (λ ne. by-cases (stands x ys) (λ m. yes (then m)) (λ nm. no (λ m. ⊎-elim ne nm (first-or-then m))))
 
--- and n of them are all of them
-pub all-there : (n : ℕ) {xs : List ℕ} → Apart xs → Under n xs → length xs ≡ n → (x : ℕ) → x < n → In x xs
-all-there n {xs} a u e x l =
-    by-cases (stands x xs)
-    (λ m. m)
-    (λ h. let k = no-more n (more h a) (under-more l u) in absurd (omega arith))
-
--- where a number stands in a list
-pub seat : {x : ℕ} {xs : List ℕ} → In x xs → (i : ℕ) × (i < length xs) × (getD xs i 0 ≡ x)
-seat (first e) = (0, omega arith, sym e)
-seat (then m) = let (i, l, e) = seat m in (suc i, omega arith, e)
-
--- a list of which no two places hold the same has nothing twice
-pub apart-by : (xs : List ℕ) → ((i j : ℕ) → i < j → j < length xs → getD xs i 0 ≢ getD xs j 0) → Apart xs
-apart-by [] h = empty
-apart-by (x ∷ xs) h =
-    more {x = x} {xs = xs}
-    (λ m. let (i, l, e) = seat m in h 0 (suc i) (omega arith) (omega arith) (sym e))
-    (apart-by xs (λ i j l k. h (suc i) (suc j) (omega arith) (omega arith)))
-
 -- the list without its first number
 later : {x : ℕ} {xs : List ℕ} → Apart (x ∷ xs) → Apart xs
 later (more h a) = a
@@ -117,20 +97,6 @@ module _ {step : ℕ → ℕ → Type 0} {cost : ℕ → ℕ → ℕ} where
   -- a way that passes no place twice has fewer steps than there are places
   pub few-steps : {n s t w : ℕ} → ((u v : ℕ) → step u v → v < n) → s < n → (p : Way step cost s t w) → Apart (places p) → steps p < n
   few-steps {n} h l p a = omega (arith, no-more n a (places-under h l p), places-steps p)
-
-  -- a way passes the place where it begins
-  first-place : {s t w : ℕ} (p : Way step cost s t w) → In s (places p)
-  unfolding places
-  first-place (stay e) = first refl
-  first-place (go r p e) = first refl
-
-  -- a way all of whose places pass is a way within them
-  pub within : {s t w : ℕ} {passes : ℕ → Type 0} (p : Way step cost s t w)
-      → ((u : ℕ) → In u (places p) → passes u) → Way (Within passes step) cost s t w
-  unfolding places
-  within (stay e) h = stay e
-  within (go {s = s} {u = u} r p e) h =
-      go (r, h s (first refl), h u (then (first-place p))) (within p (λ v m. h v (then m))) e
 
   -- what is left of a way from a place on
   record Cut {u t w : ℕ} (p : Way step cost u t w) (v : ℕ) : Type 0 where

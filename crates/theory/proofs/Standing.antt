@@ -1,10 +1,9 @@
 -- Accepted roads, order and graph, with costs as customising left them: they meet every hypothesis of the theory of ways, so the distance
 -- between two positions is the least walk between them. Assumes nothing.
-use Prim.Native.Nat.{ℕ, zero, suc, _+_, _*_, _≤_, _<_, min}
-use mathlib.Core.Path.{_≡_, refl, sym, ap, _∙_, subst}
-use mathlib.Core.Logic.{_⊎_, inl, inr, _≢_}
-use mathlib.Core.Bool.{Bool, true, false, cond}
-use mathlib.Core.List.{List, [], _∷_}
+use Prim.Native.Nat.{ℕ, _+_, _≤_, _<_}
+use mathlib.Core.Path.{_≡_, ap, _∙_}
+use mathlib.Core.Logic.{inl, inr, _≢_}
+use mathlib.Core.List.{List}
 use native.Mathlib.Omega.{arith}
 use native.Mathlib.Nat.{mul-le-mul-right}
 use lib.Dec.{T, eqb, ltb}
@@ -14,29 +13,30 @@ use Rattle.rules.specs.Words.{tabulate}
 use Rattle.rules.specs.Costs.{closed, none, greatest}
 use Rattle.rules.specs.declared.Direction.{Direction}
 use Rattle.rules.specs.declared.Direction.the-variants.{Up, Down}
-use Rattle.rules.specs.Net.{Net, size, arcs, tail, head, arcCost, junction, twoPositions, arcBetween, roadBetween}
-use Rattle.rules.specs.Hierarchy.{linked, held, place, rowOf, along, itsE}
-use Rattle.rules.specs.Customised.{customised, costList}
+use Rattle.rules.specs.Net.{Net, size, tail, head, arcCost, arcBetween, roadBetween}
+use Rattle.rules.specs.Hierarchy.{EdgeCosts, linked, held, rowOf, along}
+use Rattle.rules.specs.Customised.{costAt, costList}
 use Rattle.rules.specs.Distance.{label, distance}
-use Rattle.rules.specs.Calls.{shortcutCost}
-use Rattle.theory.proofs.Laws.{either, split, true-holds, eqb-e, cond-true, length-tabulate, getD-tabulate}
-use Rattle.theory.proofs.CostLaws.{customised-direct, customised-over, customised-made}
-use Rattle.theory.proofs.LabelLaws.{distance-le, distance-made}
+use Rattle.rules.specs.Calls.{shortcutCost, customisedCosts}
+use Rattle.theory.proofs.Words.{either, split, true-holds, eqb-e, length-tabulate, getD-tabulate}
+use Rattle.theory.proofs.Customised.{customised-direct, customised-over, customised-made}
+use Rattle.theory.proofs.Distance.{distance-le, distance-made}
 use Rattle.theory.proofs.Parents.{labels}
-use Rattle.theory.proofs.RoadLaws.{OpenArc, between-arc, arc-between, force-apart, force-open}
-use Rattle.theory.proofs.Ways.{Walk, Joins, Customised, Through, Labels, Meets, turned, reached}
+use Rattle.theory.proofs.Roads.{between-arc, force-apart}
+use Rattle.theory.proofs.Ways.{Walk, Joins, Customised, Labels, Meets, turned, reached}
 use Rattle.theory.proofs.Simple.{bounded}
 use Rattle.theory.proofs.Low.{cost-bound, shortest-of-all}
-use Rattle.theory.proofs.Game.{two-e}
-use Rattle.theory.proofs.Ranks.{Inverse}
-use Rattle.theory.proofs.Rows.{Rows, linked-turn, linked-two, linked-third}
-use Rattle.theory.proofs.HeldCosts.{held-list}
-use Rattle.theory.proofs.Accepted.{Accepted, LawfulCost}
+use Rattle.theory.proofs.Joined.{two-e}
+use Rattle.theory.proofs.Rows.{linked-turn, linked-two, linked-third}
+use Rattle.theory.proofs.Held.{held-small as entries-small}
+use Rattle.theory.proofs.CostLists.{held-list}
+use Rattle.theory.specs.Accepted.{Accepted, LawfulCost}
+use Rattle.rules.specs.Graph.{Graph}
 
-module _ {N : Net} {rank first rowHeads up down : List ℕ} (A : Accepted N rank first rowHeads up down) where
+module _ {N : Net} {rank : List ℕ} {G : Graph} {C : EdgeCosts} (A : Accepted N rank G C) where
   -- two positions are joined, by the lists
   abbrev pub Joined : ℕ → ℕ → Type 0
-  Joined a b = T (linked first rowHeads a b)
+  Joined a b = T (linked G a b)
 
   -- a road that is not CLOSED costs from 1 to the greatest, and joins its ends
   pub road-lawful : (a b : ℕ) → roadBetween N a b ≢ closed → (1 ≤ roadBetween N a b) × (roadBetween N a b ≤ greatest)
@@ -64,7 +64,7 @@ module _ {N : Net} {rank first rowHeads up down : List ℕ} (A : Accepted N rank
       let i = arcBetween N a b in
       let o = w .1 in
       let two = two-e N a b (w .0) in
-      let j : T (linked first rowHeads (getD rank (tail N i) 0) (getD rank (head N i) 0)) = A .edges i (o .listed) (force-apart N i (o .in-force)) in
+      let j : T (linked G (getD rank (tail N i) 0) (getD rank (head N i) 0)) = A .edges i (o .listed) (force-apart N i (o .in-force)) in
       let ea : getD rank (tail N i) 0 ≡ a = ap (λ x. getD rank x 0) (o .tail-is) ∙ A .ranks .back a (two .0) in
       let eb : getD rank (head N i) 0 ≡ b = ap (λ x. getD rank x 0) (o .head-is) ∙ A .ranks .back b (two .1) in
       rw (ea, eb) at j
@@ -72,7 +72,7 @@ module _ {N : Net} {rank first rowHeads up down : List ℕ} (A : Accepted N rank
   pub joins : Joins closed (size N) (roadBetween N) Joined
   joins =
       record {
-        turn = λ {a} {b} j. linked-turn first rowHeads a b j;
+        turn = λ {a} {b} j. linked-turn G a b j;
         apart = λ {a} {b} j. linked-two (A .rows-of) a b j .2;
         below = λ {a} {b} j. linked-two (A .rows-of) a b j .0;
         roads = λ {a} {b} h. road-joins a b h;
@@ -81,13 +81,13 @@ module _ {N : Net} {rank first rowHeads up down : List ℕ} (A : Accepted N rank
 
   -- the customised costs
   abbrev shortcut : ℕ → ℕ → ℕ
-  shortcut = shortcutCost N first rowHeads
+  shortcut = shortcutCost N G
 
   -- they are customised in the sense of the theory of ways
   pub shortcut-customised : Customised closed (roadBetween N) Joined shortcut
   unfolding shortcutCost
   shortcut-customised =
-      let joined = linked first rowHeads in
+      let joined = linked G in
       record {
         direct = λ {a} {b} j. customised-direct joined (roadBetween N) a b;
         over = λ {z} {a} {b} h g n i j. customised-over joined (roadBetween N) z a b h g i j;
@@ -98,7 +98,7 @@ module _ {N : Net} {rank first rowHeads up down : List ℕ} (A : Accepted N rank
 
   pub shortcut-small : (a b : ℕ) → shortcut a b ≤ closed
   unfolding shortcutCost
-  shortcut-small a b = omega (arith, customised-direct (linked first rowHeads) (roadBetween N) a b, road-small a b)
+  shortcut-small a b = omega (arith, customised-direct (linked G) (roadBetween N) a b, road-small a b)
 
   -- "Customised costs that aren't CLOSED are at most 4,095 × 500,000 = 2,047,500,000"
   pub shortcut-bound : (a b : ℕ) → Joined a b → shortcut a b < closed → shortcut a b ≤ 2047500000
@@ -108,19 +108,19 @@ module _ {N : Net} {rank first rowHeads up down : List ℕ} (A : Accepted N rank
       omega (arith, mul-le-mul-right greatest few)
 
   -- a list of costs has nothing over CLOSED
-  list-small : (d : Direction) (room k : ℕ) → getD (costList (size N) first rowHeads shortcut d room) k closed ≤ closed
+  list-small : (d : Direction) (room k : ℕ) → getD (costList (size N) G shortcut d room) k 0 ≤ closed
   unfolding costList
   list-small d room k =
       either (split (ltb k room))
       (λ e.
-      let g = getD-tabulate at 0 room k closed (ltb-true k room e) in
+      let g = getD-tabulate at 0 room k 0 (ltb-true k room e) in
       omega (arith, at-small (0 + k)))
       (λ e.
-      let g = List·getD-eq-default (tabulate at 0 room) closed {n = k} (let x = ltb-false k room e in omega (arith, length-tabulate at 0 room)) in
+      let g = List·getD-eq-default (tabulate at 0 room) 0 {n = k} (let x = ltb-false k room e in omega (arith, length-tabulate at 0 room)) in
       omega arith)
     where
       at : ℕ → ℕ
-      at i = cond (ltb i (getD first (size N) 0)) (along d shortcut (rowOf (size N) first i) (getD rowHeads i 0)) closed
+      at = costAt (size N) G shortcut d
 
       along-small : (d : Direction) (a b : ℕ) → along d shortcut a b ≤ closed
       along-small Up a b = shortcut-small a b
@@ -128,27 +128,23 @@ module _ {N : Net} {rank first rowHeads up down : List ℕ} (A : Accepted N rank
 
       at-small : (i : ℕ) → at i ≤ closed
       at-small i =
-          either (split (ltb i (getD first (size N) 0)))
-          (λ e. rw e (along-small d (rowOf (size N) first i) (getD rowHeads i 0)))
+          either (split (ltb i (getD (G .first) (size N) 0)))
+          (λ e. rw e (along-small d (rowOf (size N) G i) (getD (G .heads) i 0)))
           (λ e. rw e (omega arith))
 
   -- ---- up and down as customising left them
 
-  module _ {ups downs : List ℕ} (eu : ups ≡ costList (size N) first rowHeads shortcut Up (length up))
-      (ed : downs ≡ costList (size N) first rowHeads shortcut Down (length down)) where
+  module _ {C′ : EdgeCosts} (e : C′ ≡ customisedCosts N G C) where
     -- the cost held at an edge's place is the customised one
     abbrev pub heldCost : ℕ → ℕ → ℕ
-    heldCost = held first rowHeads ups downs
+    heldCost = held G C′
 
     pub held-is : (a b : ℕ) → Joined a b → heldCost a b ≡ shortcut a b
-    held-is a b j = rw (eu, ed) (held-list (A .rows-of) shortcut a b (length up) (length down) (A .up-long) (A .down-long) j)
+    held-is a b j = rw e (held-list (A .rows-of) shortcut a b C (A .up-long) (A .down-long) j)
 
     pub held-small : (a b : ℕ) → heldCost a b ≤ closed
-    unfolding held
     held-small a b =
-        either (split (ltb a b))
-        (λ e. rw (e, eu) (list-small Up (length up) (place first rowHeads a b)))
-        (λ e. rw (e, ed) (list-small Down (length down) (place first rowHeads b a)))
+        rw e (entries-small G (customisedCosts N G C) (list-small Up (length (C .up))) (list-small Down (length (C .down))) a b)
 
     pub held-customised : Customised closed (roadBetween N) Joined heldCost
     held-customised =
@@ -174,19 +170,19 @@ module _ {N : Net} {rank first rowHeads up down : List ℕ} (A : Accepted N rank
 
     module _ (s t : ℕ) where
       abbrev pub far : ℕ
-      far = distance (size N) (linked first rowHeads) heldCost s t
+      far = distance (size N) (linked G) heldCost s t
 
-      from-start : Labels closed none Joined heldCost s (label (linked first rowHeads) (along Up heldCost) s)
-      from-start = labels (linked first rowHeads) heldCost held-small s
+      from-start : Labels closed none Joined heldCost s (label (linked G) (along Up heldCost) s)
+      from-start = labels (linked G) heldCost held-small s
 
-      from-target : Labels closed none Joined (turned heldCost) t (label (linked first rowHeads) (along Down heldCost) t)
-      from-target = labels (linked first rowHeads) (turned heldCost) (λ a b. held-small b a) t
+      from-target : Labels closed none Joined (turned heldCost) t (label (linked G) (along Down heldCost) t)
+      from-target = labels (linked G) (turned heldCost) (λ a b. held-small b a) t
 
-      meets : Meets (size N) none (label (linked first rowHeads) (along Up heldCost) s) (label (linked first rowHeads) (along Down heldCost) t) far
+      meets : Meets (size N) none (label (linked G) (along Up heldCost) s) (label (linked G) (along Down heldCost) t) far
       meets =
           record {
-            least = distance-le (size N) (linked first rowHeads) heldCost s t;
-            made = distance-made (size N) (linked first rowHeads) heldCost s t;
+            least = distance-le (size N) (linked G) heldCost s t;
+            made = distance-made (size N) (linked G) heldCost s t;
           }
 
       -- the distance between two positions is that of a walk

@@ -4,23 +4,9 @@ use Prim.Native.Nat.{ℕ, zero, suc, _+_, _≤_, _<_}
 use native.Mathlib.Omega.{arith}
 use native.Mathlib.Decide.{ℕ-discrete}
 use mathlib.Core.Path.{_≡_}
-use mathlib.Core.Logic.{_≢_, by-cases}
+use mathlib.Core.Logic.{by-cases}
 use Rattle.theory.proofs.Ways.{Third, Labels, by-labels}
-
--- c is the lowest place above p that is joined to p
-pub record Parent (joined : ℕ → ℕ → Type 0) (p c : ℕ) : Type 0 where
-  pub above : p < c
-  pub edge : joined p c
-  pub lowest : (q : ℕ) → p < q → joined p q → c ≤ q
-
--- each other higher neighbour of a place is joined to its parent
-abbrev pub Tree : (ℕ → ℕ → Type 0) → Type 0
-Tree joined = (p c q : ℕ) → Parent joined p c → p < q → q ≢ c → joined p q → joined c q
-
--- from z, going from parent to parent, p is reached
-pub data Chain (joined : ℕ → ℕ → Type 0) (p : ℕ) : ℕ → Type 0 where
-  here : Chain joined p p
-  higher : {z c : ℕ} → Parent joined z c → Chain joined p c → Chain joined p z
+use Rattle.theory.specs.Parents.{Chain, Parent, Tree, higher, here}
 
 -- pairs in which any two higher neighbours are joined meet the parent rule
 pub third-tree : {joined : ℕ → ℕ → Type 0} → Third joined → Tree joined
@@ -46,23 +32,6 @@ module _ {joined : ℕ → ℕ → Type 0} (decide : (a b : ℕ) → Dec (joined
           (λ e. (lo, record { above = h; edge = e; lowest = least }))
           (λ none. seek k (suc lo) (omega arith) (omega arith) (λ q g i.
           by-cases (ℕ-discrete lo q) (λ s. absurd (none (rw s i))) (λ ne. let m = least q g i in omega arith)))
-
-  -- under the parent rule any two higher neighbours of a place are joined
-  pub tree-third : ((a b : ℕ) → joined a b → joined b a) → Tree joined → Third joined
-  tree-third turn T z a b = climb a z a b (omega arith)
-    where
-      climb : (k z a b : ℕ) → a ≤ z + k → z < a → z < b → a ≢ b → joined z a → joined z b → joined a b
-      climb zero z a b m l h ne i j = absurd (omega arith)
-      climb (suc k) z a b m l h ne i j =
-          let (c, P) = parent z a l i in
-          by-cases (ℕ-discrete a c)
-          (λ e. rw e (T z c b P h (omega arith) j))
-          (λ na. by-cases (ℕ-discrete b c)
-          (λ e. rw e (turn c a (T z c a P l na i)))
-          (λ nb. let up = P .above in
-          let under-a = P .lowest a l i in
-          let under-b = P .lowest b h j in
-          climb k c a b (omega arith) (omega arith) (omega arith) ne (T z c a P l na i) (T z c b P h nb j)))
 
   module _ (T : Tree joined) where
     -- a higher neighbour is on the chain of parents

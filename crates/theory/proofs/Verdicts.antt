@@ -1,18 +1,18 @@
 -- What a check's verdict tells: it passes exactly if there is no fault. Assumes nothing.
-use Prim.Native.Nat.{ℕ, zero, suc, _+_, _≤_, _<_}
+use Prim.Native.Nat.{ℕ, _+_, _≤_, _<_}
 use mathlib.Core.Path.{_≡_, refl, sym, subst}
-use mathlib.Core.Bool.{Bool, true, false, cond}
+use mathlib.Core.Bool.{Bool, true, false}
 use mathlib.Core.List.{List, [], _∷_}
 use native.Mathlib.Omega.{arith}
 use lib.Dec.{T, eqb, ltb}
 use borrow.Author.Tests.{ltb-false, lt-ltb, eqb-true, eqb-false}
 use Rattle.rules.specs.Words.{lowest}
 use Rattle.rules.specs.Refusals.{Verdict, passes, fails, firstFailure, failsIf, failsAt}
-use Rattle.theory.proofs.Laws.{lowest-is, lowest-before, lowest-none, either, split, cond-false, ltb-e}
+use Rattle.theory.proofs.Words.{lowest-is, lowest-before, lowest-none, either, split, cond-false, ltb-e, clash}
 
 -- a check that passes and one that fails are two things
 pub passes-fails : {A : Type 0} {k p : ℕ} → passes ≡ fails k p → A
-passes-fails {k} {p} e = let z : _≡_ {A = ℕ} 0 1 = cc in absurd (omega arith)
+passes-fails {k} {p} e = clash (cc)
 
 -- where the first failure is none, the first check passes and so does the rest
 pub first-passes : (v : Verdict) (vs : List Verdict) → firstFailure (v ∷ vs) ≡ passes → (v ≡ passes) × (firstFailure vs ≡ passes)
@@ -20,20 +20,20 @@ first-passes passes vs e = (refl, e)
 first-passes (fails k p) vs e = passes-fails (sym e)
 
 -- a check of a whole: it passes exactly if the fault is not there
-pub if-passes : (k : ℕ) (b : Bool) → failsIf k b ≡ passes → T b → ⊥
-if-passes k true e t = passes-fails (sym e)
-if-passes k false e t = t
+pub failsIf-e : (k : ℕ) (b : Bool) → failsIf k b ≡ passes → T b → ⊥
+failsIf-e k true e t = passes-fails (sym e)
+failsIf-e k false e t = t
 
 -- a check of places: it passes exactly if no place is at fault
-pub at-passes : (k : ℕ) (f : ℕ → Bool) (n i : ℕ) → failsAt k f n ≡ passes → i < n → T (f i) → ⊥
-at-passes k f n i e h t =
+pub failsAt-e : (k : ℕ) (f : ℕ → Bool) (n i : ℕ) → failsAt k f n ≡ passes → i < n → T (f i) → ⊥
+failsAt-e k f n i e h t =
     either (split (ltb (lowest f 0 n) n))
     (λ d. passes-fails (sym (rw d at e)))
     (λ d. lowest-before f 0 n i (omega arith) (let x = ltb-false (lowest f 0 n) n d in omega arith) t)
 
 -- a check of places that finds no fault passes
-pub passes-at : (k : ℕ) (f : ℕ → Bool) (n : ℕ) → ((i : ℕ) → i < n → T (f i) → ⊥) → failsAt k f n ≡ passes
-passes-at k f n none =
+pub failsAt-i : (k : ℕ) (f : ℕ → Bool) (n : ℕ) → ((i : ℕ) → i < n → T (f i) → ⊥) → failsAt k f n ≡ passes
+failsAt-i k f n none =
     cond-false (ltb (lowest f 0 n) n) (fails k (lowest f 0 n)) passes
     (λ t. omega (arith, ltb-e (lowest f 0 n) n t, lowest-none f 0 n (λ q l h. none q (omega arith))))
 
@@ -65,7 +65,7 @@ faultless-fails k {f} {n} {i} s h t =
 
 -- none up to the end
 pub faultless-passes : (k : ℕ) {f : ℕ → Bool} {n i : ℕ} → Faultless f n i → n ≤ i → passes ≡ failsAt k f n
-faultless-passes k {f} {n} {i} s h = sym (passes-at k f n (λ q l t. s .none q (omega arith) t))
+faultless-passes k {f} {n} {i} s h = sym (failsAt-i k f n (λ q l t. s .none q (omega arith) t))
 
 -- ---- checks one after the other
 

@@ -1,23 +1,23 @@
 -- Walks along open roads, as lists of arcs between junctions, and the ways between positions that the theory speaks of: each gives the
 -- other. Assumes nothing.
-use Prim.Native.Nat.{ℕ, zero, suc, _+_, _≤_, _<_}
+use Prim.Native.Nat.{ℕ, suc, _+_, _≤_, _<_}
 use mathlib.Core.Path.{_≡_, refl, sym, ap, _∙_, subst}
-use mathlib.Core.Logic.{_⊎_, inl, inr, _≢_}
-use mathlib.Core.Bool.{Bool, true, false, not, _&&_}
-use mathlib.Core.List.{List, [], _∷_, _++_, map}
+use mathlib.Core.Logic.{_≢_}
+use mathlib.Core.Bool.{_&&_}
+use mathlib.Core.List.{List, [], _∷_, map}
 use native.Mathlib.Omega.{arith}
 use lib.Dec.{T, eqb, ltb}
 use lib.ListN.{length, getD}
 use Rattle.rules.specs.Costs.{closed}
-use Rattle.rules.specs.Net.{Net, size, arcs, tail, head, arcCost, junction, inForce, twoPositions, arcBetween, roadBetween}
+use Rattle.rules.specs.Net.{Net, size, arcs, tail, head, arcCost, junction, inForce, arcBetween, roadBetween}
 use Rattle.theory.specs.Demand3.{isWalk, walkCost, passed}
-use Rattle.theory.proofs.Laws.{and-i, and-l, and-r, eqb-e, eqb-i, ltb-e, ltb-i}
-use Rattle.theory.proofs.RoadLaws.{OpenArc, between-arc, arc-between, force-apart, force-open}
-use Rattle.theory.proofs.RouteLaws.{Drive, stop, leg}
-use Rattle.theory.proofs.Ways.{Walk, Way, stay, go}
+use Rattle.theory.proofs.Words.{and-i, and-l, and-r, eqb-e, eqb-i, ltb-e, ltb-i}
+use Rattle.theory.proofs.Roads.{OpenArc, between-arc, arc-between, force-apart, force-open}
+use Rattle.theory.proofs.Route.{Drive, stop, leg}
+use Rattle.theory.proofs.Ways.{Walk, stay, go}
 use Rattle.theory.proofs.Simple.{places, steps}
-use Rattle.theory.proofs.Ranks.{Inverse}
-use Rattle.theory.proofs.Game.{two-i}
+use Rattle.theory.specs.Orders.{Inverse}
+use Rattle.theory.proofs.Joined.{two-i}
 
 module _ (N : Net) where
   -- a walk's first arc, and the walk from its head

@@ -5,8 +5,8 @@ use Prim.Native.Nat.{ℕ, zero, suc, _+_, _≤_, _<_, min}
 use native.Mathlib.Nat.{add-comm}
 use native.Mathlib.Omega.{arith}
 use native.Mathlib.Decide.{decLt, ℕ-discrete}
-use mathlib.Core.Path.{_≡_, refl, sym}
-use mathlib.Core.Logic.{_⊎_, inl, inr, _≢_, ⊎-elim, by-cases}
+use mathlib.Core.Path.{_≡_, refl}
+use mathlib.Core.Logic.{_⊎_, _≢_, ⊎-elim, by-cases}
 
 -- a way from s to t of total w: steps that are allowed, one after another; their costs add up to w
 pub data Way (step : ℕ → ℕ → Type 0) (cost : ℕ → ℕ → ℕ) : ℕ → ℕ → ℕ → Type 0 where
@@ -14,35 +14,35 @@ pub data Way (step : ℕ → ℕ → Type 0) (cost : ℕ → ℕ → ℕ) : ℕ 
   go : {s u t w x : ℕ} → step s u → Way step cost u t w → x ≡ cost s u + w → Way step cost s t x
 
 -- a walk takes open roads
-abbrev pub Walk : ℕ → (ℕ → ℕ → ℕ) → ℕ → ℕ → ℕ → Type 0
+abbrev pub Walk : (Ω : ℕ) (road : ℕ → ℕ → ℕ) (s t w : ℕ) → Type 0
 Walk Ω road = Way (λ u v. road u v < Ω) road
 
 -- a step between places that pass
-abbrev pub Within : (ℕ → Type 0) → (ℕ → ℕ → Type 0) → ℕ → ℕ → Type 0
+abbrev pub Within : (passes : ℕ → Type 0) (step : ℕ → ℕ → Type 0) (u v : ℕ) → Type 0
 Within passes step u v = step u v × passes u × passes v
 
 -- a place that, unless it is a or b itself, is lower than both
-abbrev pub Low : ℕ → ℕ → ℕ → Type 0
+abbrev pub Low : (a b u : ℕ) → Type 0
 Low a b u = u ≢ a → u ≢ b → u < min a b
 
 -- a walk that keeps below both ends
-abbrev pub LowWalk : ℕ → (ℕ → ℕ → ℕ) → ℕ → ℕ → ℕ → Type 0
+abbrev pub LowWalk : (Ω : ℕ) (road : ℕ → ℕ → ℕ) (a b w : ℕ) → Type 0
 LowWalk Ω road a b = Way (Within (Low a b) (λ u v. road u v < Ω)) road a b
 
 -- a step upward along a joined pair
-abbrev pub Above : (ℕ → ℕ → Type 0) → ℕ → ℕ → Type 0
+abbrev pub Above : (joined : ℕ → ℕ → Type 0) (q p : ℕ) → Type 0
 Above joined q p = (q < p) × joined q p
 
 -- a way up; step q p is what it costs to get from q to p, or, going the other way, from p to q
-abbrev pub Up : (ℕ → ℕ → Type 0) → (ℕ → ℕ → ℕ) → ℕ → ℕ → ℕ → Type 0
+abbrev pub Up : (joined : ℕ → ℕ → Type 0) (step : ℕ → ℕ → ℕ) (s p w : ℕ) → Type 0
 Up joined step = Way (Above joined) step
 
 -- the cost of the same step driven the other way
-abbrev pub turned : (ℕ → ℕ → ℕ) → ℕ → ℕ → ℕ
+abbrev pub turned : (cost : ℕ → ℕ → ℕ) (q p : ℕ) → ℕ
 turned cost q p = cost p q
 
 -- two higher neighbours of a place are joined
-abbrev pub Third : (ℕ → ℕ → Type 0) → Type 0
+abbrev pub Third : (joined : ℕ → ℕ → Type 0) → Type 0
 Third joined = (z a b : ℕ) → z < a → z < b → a ≢ b → joined z a → joined z b → joined a b
 
 -- the joined pairs of n places: roads join, and so does contraction

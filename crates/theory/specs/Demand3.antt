@@ -6,28 +6,29 @@ use mathlib.Core.Path.{_≡_}
 use mathlib.Core.Bool.{Bool, true, not, _&&_}
 use mathlib.Core.List.{List, [], _∷_}
 use lib.Dec.{T, eqb, ltb}
-use lib.ListN.{length, replicate}
+use lib.ListN.{length}
 use Rattle.rules.specs.Words.{has}
-use Rattle.rules.specs.Costs.{closed}
 use Rattle.rules.specs.Replies.{Reply, refused, edges, done, far, drive, noWalk}
 use Rattle.rules.specs.Net.{Net, size, arcs, tail, head, arcCost, inForce}
 use Rattle.rules.specs.Route.{routeList}
 use Rattle.rules.specs.Calls.{customiseLeaves, customiseLeft, distanceLeaves, RouteLeaves, routeLeaves}
+use Rattle.rules.specs.Graph.{Graph}
+use Rattle.rules.specs.Hierarchy.{EdgeCosts}
 
 -- ---- walks along open roads
 
 -- the arcs are listed, in force, and lead from one junction to another, end to end
-unfoldable pub isWalk : Net → ℕ → List ℕ → ℕ → Bool
+unfoldable pub isWalk : (N : Net) (from : ℕ) (way : List ℕ) (to : ℕ) → Bool
 isWalk N from [] to = eqb from to
 isWalk N from (i ∷ is) to = ltb i (arcs N) && inForce N i && eqb (tail N i) from && isWalk N (head N i) is to
 
 -- what the arcs cost together
-unfoldable pub walkCost : Net → List ℕ → ℕ
+unfoldable pub walkCost : (N : Net) (way : List ℕ) → ℕ
 walkCost N [] = 0
 walkCost N (i ∷ is) = arcCost N i + walkCost N is
 
 -- the junctions that a walk passes, its ends among them
-unfoldable pub passed : Net → ℕ → List ℕ → List ℕ
+unfoldable pub passed : (N : Net) (from : ℕ) (way : List ℕ) → List ℕ
 passed N from [] = from ∷ []
 passed N from (i ∷ is) = from ∷ passed N (head N i) is
 
@@ -51,7 +52,7 @@ pub record NoWalk (N : Net) (from to : ℕ) : Type 0 where
 -- ---- what the two questions answer
 
 -- the distance told is the least cost of any walk; "none" is told only if there is no walk; nothing else is told
-abbrev pub TrueDistance : Net → ℕ → ℕ → Reply → Type 0
+abbrev pub TrueDistance : (N : Net) (from to : ℕ) (reply : Reply) → Type 0
 TrueDistance N from to (far d) = LeastWalk N from to d
 TrueDistance N from to noWalk = NoWalk N from to
 TrueDistance N from to (refused number place) = ⊥
@@ -72,7 +73,7 @@ pub record TrueRoute (N : Net) (from to d k : ℕ) (route : List ℕ) : Type 0 w
   pub short : k < size N
 
 -- the route told is such a walk; "none" only if there is no walk; refused only by 12, with fewer than n - 1 places
-abbrev pub TrueAnswer : Net → ℕ → ℕ → ℕ → List ℕ → Reply → Type 0
+abbrev pub TrueAnswer : (N : Net) (from to room : ℕ) (route : List ℕ) (reply : Reply) → Type 0
 TrueAnswer N from to room route (drive d k) = TrueRoute N from to d k route
 TrueAnswer N from to room route noWalk = NoWalk N from to
 TrueAnswer N from to room route (refused number place) = (number ≡ 12) × (suc room < size N)
@@ -83,22 +84,21 @@ TrueAnswer N from to room route (far d) = ⊥
 -- ---- the statement
 
 -- the roads, the order and the graph were accepted by customise, and up and down hold what it left
-pub record AsCustomised (N : Net) (rank first rowHeads up down : List ℕ) : Type 0 where
-  pub upBefore : List ℕ
-  pub downBefore : List ℕ
-  pub leaves : customiseLeaves N rank first rowHeads upBefore downBefore ≡ customiseLeft up down done
+pub record AsCustomised (N : Net) (rank : List ℕ) (G : Graph) (C : EdgeCosts) : Type 0 where
+  pub before : EdgeCosts
+  pub leaves : customiseLeaves N rank G before ≡ customiseLeft C done
 
 abbrev pub DistanceRight : Type 0
 DistanceRight =
-    (N : Net) (rank first rowHeads up down : List ℕ) → AsCustomised N rank first rowHeads up down
+    (N : Net) (rank : List ℕ) (G : Graph) (C : EdgeCosts) → AsCustomised N rank G C
     → (from to : ℕ) → from < size N → to < size N
-    → TrueDistance N from to (distanceLeaves (N .order) rank first rowHeads up down from to .reply)
+    → TrueDistance N from to (distanceLeaves (N .order) rank G C from to .reply)
 
 abbrev pub RouteRight : Type 0
 RouteRight =
-    (N : Net) (rank first rowHeads up down : List ℕ) → AsCustomised N rank first rowHeads up down
+    (N : Net) (rank : List ℕ) (G : Graph) (C : EdgeCosts) → AsCustomised N rank G C
     → (from to : ℕ) → from < size N → to < size N → (room : List ℕ)
-    → let left : RouteLeaves = routeLeaves N rank first rowHeads up down from to room in
+    → let left : RouteLeaves = routeLeaves N rank G C from to room in
     TrueAnswer N from to (length room) (left .route) (left .reply)
 
 -- ---- whatever the lists hold
@@ -113,6 +113,6 @@ pub record SomeWalk (N : Net) (from to d k : ℕ) (route : List ℕ) : Type 0 wh
 
 abbrev pub RouteOnAnyLists : Type 0
 RouteOnAnyLists =
-    (N : Net) (rank first rowHeads up down : List ℕ) (from to : ℕ) (room : List ℕ) (d k : ℕ)
-    → routeLeaves N rank first rowHeads up down from to room .reply ≡ drive d k
-    → SomeWalk N from to d k (routeLeaves N rank first rowHeads up down from to room .route)
+    (N : Net) (rank : List ℕ) (G : Graph) (C : EdgeCosts) (from to : ℕ) (room : List ℕ) (d k : ℕ)
+    → routeLeaves N rank G C from to room .reply ≡ drive d k
+    → SomeWalk N from to d k (routeLeaves N rank G C from to room .route)

@@ -8,7 +8,7 @@ use lib.Dec.{T, eqb, ltb}
 use borrow.Author.Tests.{eqb-true, eqb-false}
 use Rattle.rules.specs.Net.{Net, size, arcs, junction, runs, twoPositions}
 use Rattle.rules.specs.Graph.{arcJoins, joinedAfter, joined}
-use Rattle.theory.proofs.Laws.{split, either, and-l, and-r, and-i, or-l, or-r, or-e, same-test, neb-e, neb-i, ltb-e, ltb-i, some-e, some-i}
+use Rattle.theory.proofs.Words.{split, either, and-l, and-r, and-i, or-l, or-r, or-e, same-test, neb-e, neb-i, ltb-e, ltb-i, some-e, some-i}
 
 -- what the turn of z asks of a pair that it joins
 record Turn (N : Net) (z a b : ℕ) : Type 0 where
@@ -21,7 +21,7 @@ record Turn (N : Net) (z a b : ℕ) : Type 0 where
 module _ (N : Net) where
   -- two positions are both of the net and differ
   pub two-e : (a b : ℕ) → T (twoPositions N a b) → (a < size N) × (b < size N) × (a ≢ b)
-  two-e a b t = (ltb-e a (size N) (search (and-l, and-r)), ltb-e b (size N) (search (and-l, and-r)), neb-e a b (search (and-l, and-r)))
+  two-e a b t = (ltb-e a (size N) (search (and-l, and-r)), ltb-e b (size N) (search (and-l, and-r)), neb-e (search (and-l, and-r)))
 
   -- and such two are two positions
   pub two-i : (a b : ℕ) → a < size N → b < size N → a ≢ b → T (twoPositions N a b)
@@ -65,7 +65,7 @@ module _ (N : Net) where
   turn-e z a b t =
       either (or-e (joinedAfter N z a b) (ltb z a && ltb z b && not (eqb a b) && joinedAfter N z z a && joinedAfter N z z b) t)
       (λ s. inl s)
-      (λ s. inr (record { under-a = ltb-e z a (search (and-l, and-r)); under-b = ltb-e z b (search (and-l, and-r)); apart = neb-e a b (search (and-l, and-r)); to-a = search (and-l, and-r); to-b = search (and-l, and-r) }))
+      (λ s. inr (record { under-a = ltb-e z a (search (and-l, and-r)); under-b = ltb-e z b (search (and-l, and-r)); apart = neb-e (search (and-l, and-r)); to-a = search (and-l, and-r); to-b = search (and-l, and-r) }))
 
   -- what is joined after some turns stays joined
   stays : (m k a b : ℕ) → k ≤ m → T (joinedAfter N k a b) → T (joinedAfter N m a b)
@@ -88,9 +88,9 @@ module _ (N : Net) where
       (λ u. absurd (omega (arith, u .under-a, u .under-b))))
 
   -- a pair no longer changes once its lower end has had its turn
-  pub settled : (k a b : ℕ) → min a b ≤ k → k ≤ size N → joinedAfter N k a b ≡ joined N a b
+  pub joined-settles : (k a b : ℕ) → min a b ≤ k → k ≤ size N → joinedAfter N k a b ≡ joined N a b
   unfolding joined
-  settled k a b l h = same-test (joinedAfter N k a b) (joinedAfter N (size N) a b) (stays (size N) k a b h) (was (size N) k a b l h)
+  joined-settles k a b l h = same-test (joinedAfter N k a b) (joinedAfter N (size N) a b) (stays (size N) k a b h) (was (size N) k a b l h)
 
   -- what has been joined is joined in the end
   ends : (k a b : ℕ) → k ≤ size N → T (joinedAfter N k a b) → T (joined N a b)
@@ -129,7 +129,7 @@ module _ (N : Net) where
       let (l, m, e) = joined-two z a s in
       ends (suc z) a b l
       (turn-i z a b
-      (record { under-a = h; under-b = k; apart = d; to-a = subst T (sym (settled z z a (omega arith) (omega arith))) s; to-b = subst T (sym (settled z z b (omega arith) (omega arith))) t }))
+      (record { under-a = h; under-b = k; apart = d; to-a = subst T (sym (joined-settles z z a (omega arith) (omega arith))) s; to-b = subst T (sym (joined-settles z z b (omega arith) (omega arith))) t }))
 
   -- joined either way
   pub joined-turn : (a b : ℕ) → T (joined N a b) → T (joined N b a)

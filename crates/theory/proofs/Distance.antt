@@ -1,9 +1,9 @@
 -- Labels, the distance and the meeting position, over any joined pairs and any costs: the paper's equations, and what they give.
 -- Assumes nothing.
-use Prim.Native.Nat.{ℕ, zero, suc, _+_, _*_, _≤_, _<_, min}
+use Prim.Native.Nat.{ℕ, zero, suc, _+_, _*_, _≤_, _<_}
 use mathlib.Core.Path.{_≡_, refl, sym, ap, _∙_}
 use mathlib.Core.Logic.{_⊎_, inl, inr, _≢_}
-use mathlib.Core.Bool.{Bool, true, false, cond, not, _&&_}
+use mathlib.Core.Bool.{Bool, cond, not, _&&_}
 use native.Mathlib.Omega.{arith}
 use native.Mathlib.Nat.{mul-le-mul-right}
 use lib.Dec.{T, eqb, ltb}
@@ -13,7 +13,7 @@ use Rattle.rules.specs.Costs.{closed, none}
 use Rattle.rules.specs.declared.Direction.the-variants.{Up, Down}
 use Rattle.rules.specs.Hierarchy.{along}
 use Rattle.rules.specs.Distance.{handsOn, labelWithin, label, labelFrom, bothLabels, distance, meeting}
-use Rattle.theory.proofs.Laws.{least-start, least-le, least-made, least-same, lowest-passes, lowest-before, lowest-le, cond-true, cond-made, and-i, and-l, and-r, neb-e, neb-i, eqb-e, eqb-i, either, split, true-holds}
+use Rattle.theory.proofs.Words.{least-start, least-le, least-made, least-same, lowest-passes, lowest-le, cond-true, cond-made, and-i, and-l, and-r, neb-e, neb-i, eqb-e, eqb-i, either, split, true-holds}
 
 -- a step that can hand a label on, and what it then gives
 pub record Step (joined : ℕ → ℕ → Bool) (step : ℕ → ℕ → ℕ) (from to : ℕ) : Type 0 where
@@ -30,7 +30,7 @@ module _ (joined : ℕ → ℕ → Bool) (step : ℕ → ℕ → ℕ) where
   hands-le f p q j o =
       let t = joined q p && not (eqb (step q p) closed) in
       let e : handsOn joined step f p q ≡ sumTo none (f q) (step q p) =
-      cond-true t (sumTo none (f q) (step q p)) none (and-i (joined q p) (not (eqb (step q p) closed)) j (neb-i (step q p) closed o)) in
+      cond-true t (sumTo none (f q) (step q p)) none (and-i (joined q p) (not (eqb (step q p) closed)) j (neb-i o)) in
       omega arith
 
   -- what is handed on at all came along such an edge
@@ -40,20 +40,20 @@ module _ (joined : ℕ → ℕ → Bool) (step : ℕ → ℕ → ℕ) where
       let t = joined q p && not (eqb (step q p) closed) in
       let m : T t × (handsOn joined step f p q ≡ sumTo none (f q) (step q p)) = cond-made t (sumTo none (f q) (step q p)) none h in (
         and-l (joined q p) (not (eqb (step q p) closed)) (m .0),
-        neb-e (step q p) closed (and-r (joined q p) (not (eqb (step q p) closed)) (m .0)),
+        neb-e (and-r (joined q p) (not (eqb (step q p) closed)) (m .0)),
         omega arith,
       )
 
   module _ (s : ℕ) where
     -- the counter does not matter as long as it is above the position
-    settle : (k l p : ℕ) → p < k → p < l → labelWithin joined step s k p ≡ labelWithin joined step s l p
+    label-settles : (k l p : ℕ) → p < k → p < l → labelWithin joined step s k p ≡ labelWithin joined step s l p
     unfolding labelWithin
-    settle zero l p h g = absurd (omega arith)
-    settle (suc k) zero p h g = absurd (omega arith)
-    settle (suc k) (suc l) p h g =
+    label-settles zero l p h g = absurd (omega arith)
+    label-settles (suc k) zero p h g = absurd (omega arith)
+    label-settles (suc k) (suc l) p h g =
         ap (λ m. cond (eqb p s) 0 (cond (ltb s p) m none))
         (least-same (handsOn joined step (labelWithin joined step s k) p) (handsOn joined step (labelWithin joined step s l) p) none p
-        (λ q i. hands-same (labelWithin joined step s k) (labelWithin joined step s l) p q (settle k l q (omega arith) (omega arith))))
+        (λ q i. hands-same (labelWithin joined step s k) (labelWithin joined step s l) p q (label-settles k l q (omega arith) (omega arith))))
 
     -- "label s with 0; any higher position p gets the least of label(q) + up cost of (q, p) over lower labelled q, or no label"
     label-is : (p : ℕ) → label joined step s p ≡ cond (eqb p s) 0 (cond (ltb s p) (least (handsOn joined step (label joined step s) p) none p) none)
@@ -61,7 +61,7 @@ module _ (joined : ℕ → ℕ → Bool) (step : ℕ → ℕ → ℕ) where
     label-is p =
         ap (λ m. cond (eqb p s) 0 (cond (ltb s p) m none))
         (least-same (handsOn joined step (labelWithin joined step s p) p) (handsOn joined step (label joined step s) p) none p
-        (λ q i. hands-same (labelWithin joined step s p) (label joined step s) p q (settle p (suc q) q (omega arith) (omega arith))))
+        (λ q i. hands-same (labelWithin joined step s p) (label joined step s) p q (label-settles p (suc q) q (omega arith) (omega arith))))
 
     pub label-start : label joined step s s ≡ 0
     label-start = label-is s ∙ rw (eq-eqb s s refl) refl

@@ -1,16 +1,14 @@
 -- A piece opened down to its arcs: by its arc, by its two parts, or as one that fits nothing. Code that opens pieces cites these and does
 -- not count how often the low end falls. Assumes nothing.
-use Prim.Native.Nat.{ℕ, zero, suc, _+_, _≤_, _<_, min}
-use mathlib.Core.Path.{_≡_, refl, sym, ap, _∙_}
-use mathlib.Core.Bool.{Bool, true, false, cond, not, _&&_}
+use Prim.Native.Nat.{ℕ, zero, suc, _≤_, _<_, min}
+use mathlib.Core.Path.{_≡_, refl, _∙_}
+use mathlib.Core.Bool.{Bool, cond}
 use mathlib.Core.List.{List, [], _∷_, _++_}
 use native.Mathlib.Omega.{arith}
-use lib.Dec.{T, eqb, ltb}
-use borrow.Author.Tests.{lt-ltb, le-ltb, ltb-true, ltb-false}
-use Rattle.rules.specs.Words.{lowest}
-use Rattle.rules.specs.Costs.{closed}
-use Rattle.rules.specs.Route.{Event, drives, misfits, arcFits, zFits, middle, opened}
-use Rattle.theory.proofs.Laws.{either, split, holds-true, true-false, cond-true, cond-false}
+use lib.Dec.{T, ltb}
+use borrow.Author.Tests.{lt-ltb, le-ltb, ltb-true}
+use Rattle.rules.specs.Route.{Event, drives, misfits, arcFits, middle, opened}
+use Rattle.theory.proofs.Words.{either, split, holds-true, cond-false}
 
 module _ (joined : ℕ → ℕ → Bool) (cost road arc : ℕ → ℕ → ℕ) where
   -- the counter does not matter as long as it is above the low end
@@ -29,7 +27,7 @@ module _ (joined : ℕ → ℕ → Bool) (cost road arc : ℕ → ℕ → ℕ) w
       (λ e. rw e refl)
 
   -- all that is met from a to b
-  abbrev pub openedWhole : ℕ → ℕ → List Event
+  abbrev pub openedWhole : (a b : ℕ) → List Event
   openedWhole a b = opened joined cost road arc (suc (min a b)) a b
 
   -- a fitting arc is driven

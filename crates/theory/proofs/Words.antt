@@ -1,31 +1,31 @@
 -- Laws of the words that the rules are built from: every later proof cites these and does not open the words. Assumes nothing.
-use Prim.Native.Nat.{ℕ, zero, suc, _+_, _-_, _≤_, _<_, min}
+use Prim.Native.Nat.{ℕ, zero, suc, _+_, _≤_, _<_, min}
 use mathlib.Core.Path.{_≡_, refl, sym, ap, _∙_, subst}
 use mathlib.Core.Logic.{_⊎_, inl, inr, _≢_}
-use mathlib.Core.Bool.{Bool, true, false, cond, not, _&&_, _||_}
-use mathlib.Core.List.{List, [], _∷_, _++_}
+use mathlib.Core.Bool.{Bool, true, false, cond, _||_}
+use mathlib.Core.List.{List, [], _∷_}
 use native.Mathlib.Omega.{arith}
-use native.Mathlib.Numerals.{add-one}
-use native.Mathlib.Nat.{add-zero, add-suc, suc-add}
+use native.Mathlib.Nat.{add-zero}
 use lib.Dec.{T, eqb, ltb, leb}
+-- the kit's laws of tests, under our names
+pub use lib.Dec.{not-T as not-i, T-not as not-e, eqb→eq as eqb-e, ltb→lt as ltb-e, lt→ltb as ltb-i, leb→le as leb-e, le→leb as leb-i}
+pub use lib.Ieee.Fits.{and-l, and-r}
+pub use mir.Facts.{yes-and as and-i, or-yes as or-e, eqb-no as neb-e, no-eqb as neb-i}
+pub use denote.Floats.{is-true as holds-true, passes as true-holds}
 use lib.ListN.{length, getD}
 use lib.Seq.{ext-getD}
-use borrow.Author.Tests.{eqb-true, eqb-false, eq-eqb, ltb-true, lt-ltb, ltb-false, leb-true, leb-false, le-leb, le-ltb, lt-leb, ne-eqb}
+use borrow.Author.Tests.{eqb-true, eqb-false, eq-eqb, ltb-true, ltb-false, leb-true, leb-false}
 use Rattle.rules.specs.Words.{some, each, lowest, least, those, tabulate, has}
 
 -- ---- tests
 
--- a test that holds is true, and one that is true holds
-pub holds-true : (b : Bool) → T b → b ≡ true
-holds-true true t = refl
-holds-true false t = absurd t
-
-pub true-holds : (b : Bool) → b ≡ true → T b
-true-holds b e = subst T (sym e) tt
+-- no two constructors are the same: `cc` makes 0 ≡ 1 of an equation that says so
+pub clash : {A : Type 0} → _≡_ {A = ℕ} 0 1 → A
+clash e = absurd (omega arith)
 
 -- true is not false
 pub true-false : {A : Type 0} → true ≡ false → A
-true-false e = let z : _≡_ {A = ℕ} 0 1 = ap (λ b. cond b 0 1) e in absurd (omega arith)
+true-false e = clash (cc)
 
 -- a test holds or is false
 pub split : (b : Bool) → (b ≡ true) ⊎ (b ≡ false)
@@ -37,18 +37,6 @@ pub either : {A B C : Type 0} → A ⊎ B → (A → C) → (B → C) → C
 either (inl a) f g = f a
 either (inr b) f g = g b
 
-pub and-l : (a b : Bool) → T (a && b) → T a
-and-l true b t = tt
-and-l false b t = absurd t
-
-pub and-r : (a b : Bool) → T (a && b) → T b
-and-r true b t = t
-and-r false b t = absurd t
-
-pub and-i : (a b : Bool) → T a → T b → T (a && b)
-and-i true b s t = t
-and-i false b s t = absurd s
-
 pub or-l : (a b : Bool) → T a → T (a || b)
 or-l true b t = tt
 or-l false b t = absurd t
@@ -56,18 +44,6 @@ or-l false b t = absurd t
 pub or-r : (a b : Bool) → T b → T (a || b)
 or-r true b t = tt
 or-r false b t = t
-
-pub or-e : (a b : Bool) → T (a || b) → T a ⊎ T b
-or-e true b t = inl tt
-or-e false b t = inr t
-
-pub not-i : (a : Bool) → (T a → ⊥) → T (not a)
-not-i true n = absurd (n tt)
-not-i false n = tt
-
-pub not-e : (a : Bool) → T (not a) → T a → ⊥
-not-e true n t = n
-not-e false n t = t
 
 -- two tests that hold of the same are the same
 pub same-test : (a b : Bool) → (T a → T b) → (T b → T a) → a ≡ b
@@ -77,29 +53,8 @@ same-test false true f g = absurd (g tt)
 same-test false false f g = refl
 
 -- tests on numbers
-pub eqb-e : (a b : ℕ) → T (eqb a b) → a ≡ b
-eqb-e a b t = eqb-true a b (holds-true (eqb a b) t)
-
 pub eqb-i : (a b : ℕ) → a ≡ b → T (eqb a b)
 eqb-i a b e = true-holds (eqb a b) (eq-eqb a b e)
-
-pub neb-e : (a b : ℕ) → T (not (eqb a b)) → a ≢ b
-neb-e a b t e = not-e (eqb a b) t (eqb-i a b e)
-
-pub neb-i : (a b : ℕ) → a ≢ b → T (not (eqb a b))
-neb-i a b n = not-i (eqb a b) (λ t. n (eqb-e a b t))
-
-pub ltb-e : (a b : ℕ) → T (ltb a b) → a < b
-ltb-e a b t = ltb-true a b (holds-true (ltb a b) t)
-
-pub ltb-i : (a b : ℕ) → a < b → T (ltb a b)
-ltb-i a b h = true-holds (ltb a b) (lt-ltb a b h)
-
-pub leb-e : (a b : ℕ) → T (leb a b) → a ≤ b
-leb-e a b t = leb-true a b (holds-true (leb a b) t)
-
-pub leb-i : (a b : ℕ) → a ≤ b → T (leb a b)
-leb-i a b h = true-holds (leb a b) (le-leb a b h)
 
 -- a choice by a test
 pub cond-true : {A : Type 0} (t : Bool) (a b : A) → T t → cond t a b ≡ a
@@ -332,10 +287,15 @@ is-tabulate f xs h =
     ext-getD 0 xs (tabulate f 0 (length xs)) (sym (length-tabulate f 0 (length xs)))
     (λ k l. h k l ∙ sym (getD-tabulate f 0 (length xs) k 0 l ∙ ap f (let e : 0 + k ≡ k = omega arith in e)))
 
--- tables of what gives the same are the same
-pub tabulate-same : (f g : ℕ → ℕ) (i k : ℕ) → ((j : ℕ) → i ≤ j → j < i + k → f j ≡ g j) → tabulate f i k ≡ tabulate g i k
-unfolding tabulate
-tabulate-same f g i zero h = refl
-tabulate-same f g i (suc k) h =
-    rw (h i (omega arith) (omega arith))
-    (ap (λ l. g i ∷ l) (tabulate-same f g (suc i) k (λ j a b. h j (omega arith) (omega arith))))
+-- two numbers are the same or differ
+pub same-or-not : (a b : ℕ) → (a ≡ b) ⊎ (a ≢ b)
+same-or-not a b = either (split (eqb a b)) (λ e. inl (eqb-true a b e)) (λ e. inr (eqb-false a b e))
+
+-- two numbers of which neither is below the other are the same
+pub neither-below : (p q : ℕ) → (p < q → ⊥) → (q < p → ⊥) → p ≡ q
+neither-below p q f g =
+    either (split (ltb p q))
+    (λ e. absurd (f (ltb-true p q e)))
+    (λ e. either (split (ltb q p))
+    (λ d. absurd (g (ltb-true q p d)))
+    (λ d. omega (arith, ltb-false p q e, ltb-false q p d)))

@@ -1,14 +1,14 @@
 -- The customised costs: the paper's equation holds of them, and they are the only ones of which it holds. Assumes nothing.
 use Prim.Native.Nat.{ℕ, zero, suc, _+_, _≤_, _<_, min}
-use mathlib.Core.Path.{_≡_, refl, sym, ap, _∙_}
-use mathlib.Core.Logic.{_⊎_, inl, inr, _≢_}
-use mathlib.Core.Bool.{Bool, true, false, cond, _&&_}
+use mathlib.Core.Path.{_≡_, refl, sym, _∙_}
+use mathlib.Core.Logic.{_⊎_, inl, inr}
+use mathlib.Core.Bool.{Bool, _&&_}
 use native.Mathlib.Omega.{arith}
 use lib.Dec.{T}
 use Rattle.rules.specs.Words.{least}
 use Rattle.rules.specs.Costs.{closed, sum}
 use Rattle.rules.specs.Customised.{over, costWithin, customised}
-use Rattle.theory.proofs.Laws.{least-start, least-le, least-made, least-same, cond-true, cond-made, and-i, and-l, and-r, either, split, true-holds}
+use Rattle.theory.proofs.Words.{least-start, least-le, least-made, least-same, cond-true, cond-made, and-i, and-l, and-r, either, split, true-holds}
 
 -- what goes over z where both parts agree
 pub over-same : (joined : ℕ → ℕ → Bool) (f g : ℕ → ℕ → ℕ) (a b z : ℕ) → (T (joined z a) → T (joined z b) → (f a z ≡ g a z) × (f z b ≡ g z b))
@@ -23,15 +23,15 @@ over-same joined f g a b z h =
 
 module _ (joined : ℕ → ℕ → Bool) (road : ℕ → ℕ → ℕ) where
   -- the counter does not matter as long as it is above the lower end
-  settle : (k l a b : ℕ) → min a b < k → min a b < l → costWithin joined road k a b ≡ costWithin joined road l a b
+  cost-settles : (k l a b : ℕ) → min a b < k → min a b < l → costWithin joined road k a b ≡ costWithin joined road l a b
   unfolding costWithin
-  settle zero l a b h g = absurd (omega arith)
-  settle (suc k) zero a b h g = absurd (omega arith)
-  settle (suc k) (suc l) a b h g =
+  cost-settles zero l a b h g = absurd (omega arith)
+  cost-settles (suc k) zero a b h g = absurd (omega arith)
+  cost-settles (suc k) (suc l) a b h g =
       least-same (over joined (costWithin joined road k) a b) (over joined (costWithin joined road l) a b) (road a b) (min a b)
       (λ z i.
       over-same joined (costWithin joined road k) (costWithin joined road l) a b z
-      (λ u v. (settle k l a z (omega arith) (omega arith), settle k l z b (omega arith) (omega arith))))
+      (λ u v. (cost-settles k l a z (omega arith) (omega arith), cost-settles k l z b (omega arith) (omega arith))))
 
   -- "Each is the least of: the cost of the arc in force in that direction, if any; and, for each z below x joined to both, the cost of x to
   -- z plus z to y": the paper's equation
@@ -41,7 +41,7 @@ module _ (joined : ℕ → ℕ → Bool) (road : ℕ → ℕ → ℕ) where
       least-same (over joined (costWithin joined road (min a b)) a b) (over joined (customised joined road) a b) (road a b) (min a b)
       (λ z i.
       over-same joined (costWithin joined road (min a b)) (customised joined road) a b z
-      (λ u v. (settle (min a b) (suc (min a z)) a z (omega arith) (omega arith), settle (min a b) (suc (min z b)) z b (omega arith) (omega arith))))
+      (λ u v. (cost-settles (min a b) (suc (min a z)) a z (omega arith) (omega arith), cost-settles (min a b) (suc (min z b)) z b (omega arith) (omega arith))))
 
   -- no other costs satisfy it on the joined pairs
   pub customised-only : ((a b : ℕ) → T (joined a b) → T (joined b a)) → (f : ℕ → ℕ → ℕ)

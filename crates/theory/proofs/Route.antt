@@ -1,13 +1,13 @@
 -- The route, over any joined pairs, costs and roads: if nothing misfits, what is met is a drive end to end that adds up to the distance;
 -- over customised costs nothing misfits. Assumes nothing.
-use Prim.Native.Nat.{ℕ, zero, suc, _+_, _≤_, _<_, min}
+use Prim.Native.Nat.{ℕ, zero, suc, _+_, _-_, _≤_, _<_, min}
 use mathlib.Core.Path.{_≡_, refl, sym, ap, _∙_, subst}
 use mathlib.Core.Logic.{_⊎_, inl, inr, _≢_}
-use mathlib.Core.Bool.{Bool, true, false, cond, not, _&&_}
-use mathlib.Core.List.{List, [], _∷_, _++_, reverse, append-assoc, reverse-append}
+use mathlib.Core.Bool.{Bool, true, not, _&&_}
+use mathlib.Core.List.{List, [], _∷_, _++_, reverse, reverse-append}
 use native.Mathlib.Omega.{arith}
 use lib.Dec.{T, eqb, ltb}
-use lib.ListN.{length, length-append}
+use lib.ListN.{length, replicate, length-append, length-replicate}
 use borrow.Author.Tests.{ltb-true, ltb-false, lt-ltb, eqb-false}
 use Rattle.rules.specs.Words.{lowest}
 use Rattle.rules.specs.Costs.{closed, none}
@@ -15,9 +15,9 @@ use Rattle.rules.specs.declared.Direction.{Direction}
 use Rattle.rules.specs.declared.Direction.the-variants.{Up, Down}
 use Rattle.rules.specs.Hierarchy.{along}
 use Rattle.rules.specs.Distance.{label, labelFrom, distance, meeting}
-use Rattle.rules.specs.Route.{Piece, piece, edgesWithin, pieces, Event, drives, misfits, arcFits, zFits, middle, opened, openedAll, met, trouble, driven}
-use Rattle.theory.proofs.Laws.{lowest-to, lowest-passes, lowest-le, and-i, and-l, and-r, neb-e, neb-i, eqb-e, eqb-i, ltb-i, either, split, true-holds, holds-true, true-false}
-use Rattle.theory.proofs.LabelLaws.{Step, label-start, label-lower, label-from, distance-made, meeting-made, fromStart, fromTarget}
+use Rattle.rules.specs.Route.{Piece, piece, edgesWithin, pieces, Event, drives, misfits, arcFits, zFits, middle, opened, openedAll, met, trouble, driven, routeList}
+use Rattle.theory.proofs.Words.{lowest-passes, lowest-le, and-i, and-l, and-r, neb-e, neb-i, eqb-e, eqb-i, either, split, true-holds, holds-true, true-false}
+use Rattle.theory.proofs.Distance.{Step, label-start, label-lower, label-from, meeting-made, fromStart, fromTarget}
 
 -- ---- events
 
@@ -27,15 +27,15 @@ Clear [] = Unit {0}
 Clear (drives i ∷ es) = Clear es
 Clear (misfits ∷ es) = ⊥
 
-pub clear-parts : (es fs : List Event) → Clear (es ++ fs) → Clear es × Clear fs
-clear-parts [] fs c = (tt, c)
-clear-parts (drives i ∷ es) fs c = clear-parts es fs c
-clear-parts (misfits ∷ es) fs c = absurd c
+pub clear-e : (es fs : List Event) → Clear (es ++ fs) → Clear es × Clear fs
+clear-e [] fs c = (tt, c)
+clear-e (drives i ∷ es) fs c = clear-e es fs c
+clear-e (misfits ∷ es) fs c = absurd c
 
-pub clear-both : (es fs : List Event) → Clear es → Clear fs → Clear (es ++ fs)
-clear-both [] fs c d = d
-clear-both (drives i ∷ es) fs c d = clear-both es fs c d
-clear-both (misfits ∷ es) fs c d = absurd c
+pub clear-i : (es fs : List Event) → Clear es → Clear fs → Clear (es ++ fs)
+clear-i [] fs c d = d
+clear-i (drives i ∷ es) fs c d = clear-i es fs c d
+clear-i (misfits ∷ es) fs c d = absurd c
 
 pub driven-append : (es fs : List Event) → driven (es ++ fs) ≡ driven es ++ driven fs
 unfolding driven
@@ -44,14 +44,14 @@ driven-append (drives i ∷ es) fs = ap (λ l. i ∷ l) (driven-append es fs)
 driven-append (misfits ∷ es) fs = driven-append es fs
 
 -- no trouble: nothing misfits and the arcs have room; and the other way round
-pub no-trouble : (room : ℕ) (es : List Event) → trouble room es ≡ 0 → Clear es × (length (driven es) ≤ room)
+pub trouble-e : (room : ℕ) (es : List Event) → trouble room es ≡ 0 → Clear es × (length (driven es) ≤ room)
 unfolding trouble driven
-no-trouble zero [] e = (tt, omega arith)
-no-trouble (suc room) [] e = (tt, omega arith)
-no-trouble zero (misfits ∷ es) e = absurd (omega arith)
-no-trouble (suc room) (misfits ∷ es) e = absurd (omega arith)
-no-trouble zero (drives i ∷ es) e = absurd (omega arith)
-no-trouble (suc room) (drives i ∷ es) e = let r = no-trouble room es e in (r .0, let x = r .1 in omega arith)
+trouble-e zero [] e = (tt, omega arith)
+trouble-e (suc room) [] e = (tt, omega arith)
+trouble-e zero (misfits ∷ es) e = absurd (omega arith)
+trouble-e (suc room) (misfits ∷ es) e = absurd (omega arith)
+trouble-e zero (drives i ∷ es) e = absurd (omega arith)
+trouble-e (suc room) (drives i ∷ es) e = let r = trouble-e room es e in (r .0, let x = r .1 in omega arith)
 
 pub trouble-none : (room : ℕ) (es : List Event) → Clear es → length (driven es) ≤ room → trouble room es ≡ 0
 unfolding trouble driven
@@ -71,6 +71,13 @@ trouble-room zero (misfits ∷ es) c h = absurd c
 trouble-room (suc room) (misfits ∷ es) c h = absurd c
 trouble-room zero (drives i ∷ es) c h = refl
 trouble-room (suc room) (drives i ∷ es) c h = trouble-room room es c (omega arith)
+
+-- a route list is as long as its room
+pub length-route : (arcs : List ℕ) (room : ℕ) → length arcs ≤ room → length (routeList arcs room) ≡ room
+unfolding routeList
+length-route arcs room h =
+    length-append arcs (replicate (room - length arcs) closed)
+    ∙ (let e = length-replicate {A = ℕ} (room - length arcs) closed in omega arith)
 
 -- ---- drives and trails
 
@@ -117,21 +124,17 @@ one {cost} a b r = then {a = a} {b = b} {w = 0} {x = cost a b} {xs = []} r (rest
 
 -- ---- what a piece opens into
 
--- at most the top and not the top is below it
-pub below-top : (c : ℕ) → c ≤ closed → c ≢ closed → c < closed
-below-top c h n = either (split (ltb c closed)) (λ e. ltb-true c closed e) (λ e. absurd (n (let x = ltb-false c closed e in omega arith)))
-
 module _ (joined : ℕ → ℕ → Bool) (cost road arc : ℕ → ℕ → ℕ) where
   -- a z that fits: joined to both ends, and its two costs add up
-  fit-parts : (a b z : ℕ) → T (zFits joined cost a b z) → T (joined z a) × T (joined z b) × (cost a z + cost z b ≡ cost a b)
-  fit-parts a b z t =
+  fit-e : (a b z : ℕ) → T (zFits joined cost a b z) → T (joined z a) × T (joined z b) × (cost a z + cost z b ≡ cost a b)
+  fit-e a b z t =
       let p = joined z a in
       let q = joined z b in
       let r = not (eqb (cost a z) closed) in
       let u = not (eqb (cost z b) closed) in
       let v = eqb (cost a z + cost z b) (cost a b) in
-      let pq : T (p && q) = and-l (p && q) r (and-l (p && q && r) u (and-l (p && q && r && u) v t)) in
-      (and-l p q pq, and-r p q pq, eqb-e (cost a z + cost z b) (cost a b) (and-r (p && q && r && u) v t))
+      let pq : T (p && q) = and-l (p && q) (r && u && v) t in
+      (and-l p q pq, and-r p q pq, eqb-e (cost a z + cost z b) (cost a b) (and-r (r && u) v (and-r (p && q) (r && u && v) t)))
 
   -- a piece that opens without a misfit is a drive from end to end, of the piece's cost, whatever the costs are
   opened-drive : (k a b : ℕ) → Clear (opened joined cost road arc k a b)
@@ -145,15 +148,15 @@ module _ (joined : ℕ → ℕ → Bool) (cost road arc : ℕ → ℕ → ℕ) w
       either (split (arcFits cost road a b))
       (λ e.
       let t : T (arcFits cost road a b) = true-holds (arcFits cost road a b) e in
-      let o = neb-e (road a b) closed (and-l (not (eqb (road a b) closed)) (eqb (road a b) (cost a b)) t) in
+      let o = neb-e (and-l (not (eqb (road a b) closed)) (eqb (road a b) (cost a b)) t) in
       let w = eqb-e (road a b) (cost a b) (and-r (not (eqb (road a b) closed)) (eqb (road a b) (cost a b)) t) in
       rw e (leg {x = cost a b} o (stop {w = 0} refl refl) refl (omega arith)))
       (λ e.
       either (split (ltb z (min a b)))
       (λ d.
-      let fit = fit-parts a b z (lowest-passes (zFits joined cost a b) 0 (min a b) (let l = ltb-true z (min a b) d in omega arith)) in
+      let fit = fit-e a b z (lowest-passes (zFits joined cost a b) 0 (min a b) (let l = ltb-true z (min a b) d in omega arith)) in
       let cs : Clear (lower ++ upper) = rw (e, d) at c in
-      let both = clear-parts lower upper cs in
+      let both = clear-e lower upper cs in
       rw (e, d) (drive-on (opened-drive k a z (both .0)) (opened-drive k z b (both .1)) (driven-append lower upper) (sym (fit .2))))
       (λ d. absurd (let cs : ⊥ = rw (e, d) at c in cs)))
 
@@ -166,7 +169,7 @@ module _ (joined : ℕ → ℕ → Bool) (cost road arc : ℕ → ℕ → ℕ) w
       let first = opened joined cost road arc (suc (min a b)) a b in
       let later = openedAll joined cost road arc xs in
       let cs : Clear (first ++ later) = subst (λ l. Clear (openedAll joined cost road arc l)) e c in
-      let both = clear-parts first later cs in
+      let both = clear-e first later cs in
       drive-on (opened-drive (suc (min a b)) a b (both .0)) (trail-drive t (both .1))
       (ap (λ l. driven (openedAll joined cost road arc l)) e ∙ driven-append first later) f
 
@@ -177,18 +180,17 @@ module _ (joined : ℕ → ℕ → Bool) (cost road arc : ℕ → ℕ → ℕ) w
       → (cost a b ≡ road a b)
       ⊎ ((z : ℕ) × (z < min a b) × T (joined z a) × T (joined z b) × (cost a b ≡ cost a z + cost z b))
 
-  fit-made : (a b z : ℕ) → cost a b < closed → T (joined z a) → T (joined z b) → cost a b ≡ cost a z + cost z b → T (zFits joined cost a b z)
-  fit-made a b z h j k e =
+  fit-i : (a b z : ℕ) → cost a b < closed → T (joined z a) → T (joined z b) → cost a b ≡ cost a z + cost z b → T (zFits joined cost a b z)
+  fit-i a b z h j k e =
       let p = joined z a in
       let q = joined z b in
       let r = not (eqb (cost a z) closed) in
       let u = not (eqb (cost z b) closed) in
       let v = eqb (cost a z + cost z b) (cost a b) in
-      and-i (p && q && r && u) v
-      (and-i (p && q && r) u
-      (and-i (p && q) r (and-i p q j k) (neb-i (cost a z) closed (λ x. omega arith)))
-      (neb-i (cost z b) closed (λ x. omega arith)))
-      (eqb-i (cost a z + cost z b) (cost a b) (sym e))
+      and-i (p && q) (r && u && v) (and-i p q j k)
+      (and-i (r && u) v
+      (and-i r u (neb-i (λ (x : cost a z ≡ closed). omega arith)) (neb-i (λ (x : cost z b ≡ closed). omega arith)))
+      (eqb-i (cost a z + cost z b) (cost a b) (sym e)))
 
   -- where no arc fits, some z does
   middle-below : (a b : ℕ) → cost a b < closed → (T (arcFits cost road a b) → ⊥)
@@ -196,9 +198,9 @@ module _ (joined : ℕ → ℕ → Bool) (cost road arc : ℕ → ℕ → ℕ) w
       → lowest (zFits joined cost a b) 0 (min a b) < min a b
   middle-below a b h n (inl e) =
       absurd (n (and-i (not (eqb (road a b) closed)) (eqb (road a b) (cost a b))
-      (neb-i (road a b) closed (λ x. omega arith)) (eqb-i (road a b) (cost a b) (sym e))))
+      (neb-i (λ (x : road a b ≡ closed). omega arith)) (eqb-i (road a b) (cost a b) (sym e))))
   middle-below a b h n (inr (y, l, j, k, e)) =
-      let x = lowest-le (zFits joined cost a b) 0 (min a b) y (omega arith) (fit-made a b y h j k e) in
+      let x = lowest-le (zFits joined cost a b) 0 (min a b) y (omega arith) (fit-i a b y h j k e) in
       omega arith
 
   module _ (turn : (a b : ℕ) → T (joined a b) → T (joined b a)) (made : Made) where
@@ -215,11 +217,11 @@ module _ (joined : ℕ → ℕ → Bool) (cost road arc : ℕ → ℕ → ℕ) w
         (λ e.
         let n : T (arcFits cost road a b) → ⊥ = λ t. true-false (sym (holds-true (arcFits cost road a b) t) ∙ e) in
         let d : ltb z (min a b) ≡ true = lt-ltb z (min a b) (middle-below a b h n (made a b j h)) in
-        let f = fit-parts a b z (lowest-passes (zFits joined cost a b) 0 (min a b) (let x = ltb-true z (min a b) d in omega arith)) in
+        let f = fit-e a b z (lowest-passes (zFits joined cost a b) 0 (min a b) (let x = ltb-true z (min a b) d in omega arith)) in
         let sum : cost a z + cost z b ≡ cost a b = f .2 in
         let x = ltb-true z (min a b) d in
         rw (e, d)
-        (clear-both lower upper
+        (clear-i lower upper
         (opened-clear k a z (omega arith) (turn z a (f .0)) (omega arith))
         (opened-clear k z b (omega arith) (f .1) (omega arith))))
 
@@ -228,16 +230,16 @@ module _ (joined : ℕ → ℕ → Bool) (cost road arc : ℕ → ℕ → ℕ) w
     unfolding openedAll
     trail-clear small (rest e f) = subst (λ l. Clear (openedAll joined cost road arc l)) (sym e) tt
     trail-clear small (then {a = a} {b = b} {xs = xs} r t e f) =
-        let g : cost a b < closed = let o = r .open-road in below-top (cost a b) (small a b) o in
+        let g : cost a b < closed = omega (arith, small a b, r .open-road) in
         let j : T (joined a b) = either (r .edge) (λ j. j) (turn b a) in
         subst (λ l. Clear (openedAll joined cost road arc l)) (sym e)
-        (clear-both (opened joined cost road arc (suc (min a b)) a b) (openedAll joined cost road arc xs)
+        (clear-i (opened joined cost road arc (suc (min a b)) a b) (openedAll joined cost road arc xs)
         (opened-clear (suc (min a b)) a b (omega arith) j g) (trail-clear small t))
 
 -- ---- the pieces
 
 -- from s up to p, or the other way from p down to s
-abbrev TrailBy : Direction → (ℕ → ℕ → Bool) → (ℕ → ℕ → ℕ) → ℕ → ℕ → List Piece → ℕ → Type 0
+abbrev TrailBy : (d : Direction) (joined : ℕ → ℕ → Bool) (cost : ℕ → ℕ → ℕ) (s p : ℕ) (xs : List Piece) (w : ℕ) → Type 0
 TrailBy Up joined cost s p xs w = Trail joined cost s p xs w
 TrailBy Down joined cost s p xs w = Trail joined cost p s (reverse xs) w
 

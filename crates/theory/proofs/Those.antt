@@ -7,7 +7,7 @@ use native.Mathlib.Omega.{arith}
 use lib.Dec.{T}
 use lib.ListN.{length}
 use Rattle.rules.specs.Words.{those}
-use Rattle.theory.proofs.Laws.{either, split, holds-true, true-holds}
+use Rattle.theory.proofs.Words.{either, split, holds-true, true-holds}
 
 -- tests that agree let the same numbers pass
 pub those-same : (f g : ℕ → Bool) (i k : ℕ) → ((q : ℕ) → i ≤ q → q < i + k → f q ≡ g q) → those f i k ≡ those g i k

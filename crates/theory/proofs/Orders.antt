@@ -1,41 +1,24 @@
 -- The order and its inverse: an order that passes refusal 4 seats each junction once, and the rank list tells where. Assumes nothing.
-use Prim.Native.Nat.{ℕ, zero, suc, _+_, _-_, _≤_, _<_, min}
+use Prim.Native.Nat.{ℕ, zero, suc, _+_, _-_, _<_, min}
 use mathlib.Core.Path.{_≡_, refl, sym, ap, _∙_}
-use mathlib.Core.Logic.{_⊎_, inl, inr, _≢_}
-use mathlib.Core.Bool.{Bool, true, false, cond, _&&_, _||_}
+use mathlib.Core.Logic.{_≢_}
+use mathlib.Core.Bool.{Bool}
 use mathlib.Core.List.{List}
 use native.Mathlib.Omega.{arith}
 use native.Mathlib.Nat.{zero-add}
-use lib.Dec.{T, eqb, ltb, leb}
+use lib.Dec.{T, eqb, leb}
 use lib.ListN.{length, getD}
 use lib.Seq.{ext-getD}
-use borrow.Author.Tests.{leb-false, ltb-true, ltb-false, le-ltb}
-use Rattle.rules.specs.Words.{some, each, lowest}
+use borrow.Author.Tests.{leb-false}
+use Rattle.rules.specs.Words.{some}
 use Rattle.rules.specs.Net.{rankList, rank as seat}
 use Rattle.rules.specs.Hierarchy.{inverts}
-use Rattle.rules.specs.Refusals.{passes, failsAt, check4}
-use Rattle.theory.proofs.Verdicts.{at-passes, passes-at}
-use Rattle.theory.proofs.Laws.{holds-true, true-holds, true-false, split, either, and-l, and-r, and-i, or-l, or-r, or-e, eqb-e, eqb-i, ltb-e, leb-e, leb-i, cond-false, some-i, some-e, each-i, each-e, lowest-is, lowest-none, lowest-before, length-tabulate, getD-tabulate}
-
--- two numbers of which neither is below the other are the same
-pub neither-below : (p q : ℕ) → (p < q → ⊥) → (q < p → ⊥) → p ≡ q
-neither-below p q f g =
-    either (split (ltb p q))
-    (λ e. absurd (f (ltb-true p q e)))
-    (λ e. either (split (ltb q p))
-    (λ d. absurd (g (ltb-true q p d)))
-    (λ d. omega (arith, ltb-false p q e, ltb-false q p d)))
+use Rattle.rules.specs.Refusals.{passes, check4, orderFault}
+use Rattle.theory.proofs.Verdicts.{failsAt-e, failsAt-i}
+use Rattle.theory.proofs.Words.{neither-below, holds-true, true-holds, true-false, split, either, and-l, and-r, and-i, or-l, or-r, or-e, eqb-e, eqb-i, leb-e, some-i, some-e, each-i, each-e, lowest-is, length-tabulate, getD-tabulate}
+use Rattle.theory.specs.Orders.{Ordered, Inverse}
 
 -- ---- the order
-
--- each position seats a junction of the net, and no two seat the same
-pub record Ordered (order : List ℕ) : Type 0 where
-  pub within : (p : ℕ) → p < length order → getD order p 0 < length order
-  pub once : (p q : ℕ) → p < length order → q < length order → getD order p 0 ≡ getD order q 0 → p ≡ q
-
--- what check 4 looks for
-abbrev faultAt : List ℕ → ℕ → Bool
-faultAt order p = leb (length order) (getD order p 0) || some (λ q. eqb (getD order q 0) (getD order p 0)) p
 
 -- an order that passes check 4 is such
 pub ordered : (order : List ℕ) → check4 order ≡ passes → Ordered order
@@ -48,8 +31,8 @@ ordered order h =
       once = λ p q k l e. neither-below p q (λ b. repeated p q b l e) (λ b. repeated q p b k (sym e));
     }
   where
-    sound : (p : ℕ) → p < length order → T (faultAt order p) → ⊥
-    sound = λ p. at-passes 4 (faultAt order) (length order) p h
+    sound : (p : ℕ) → p < length order → T (orderFault order p) → ⊥
+    sound = λ p. failsAt-e 4 (orderFault order) (length order) p h
 
     repeated : (p q : ℕ) → p < q → q < length order → getD order p 0 ≡ getD order q 0 → ⊥
     repeated p q b l e = sound q l (search (or-r, some-i, eqb-i))
@@ -58,7 +41,7 @@ ordered order h =
 pub ordered-passes : {order : List ℕ} → Ordered order → check4 order ≡ passes
 unfolding check4
 ordered-passes {order} o =
-    passes-at 4 (faultAt order) (length order)
+    failsAt-i 4 (orderFault order) (length order)
     (λ p l t. either (or-e (leb (length order) (getD order p 0)) (some (λ q. eqb (getD order q 0) (getD order p 0)) p) t)
     (λ s. omega (arith, leb-e, o .within p l))
     (λ s.
@@ -68,7 +51,7 @@ ordered-passes {order} o =
 -- ---- each junction is seated
 
 -- the numbers but v, closed up, stay different
-abbrev without : ℕ → ℕ → ℕ
+abbrev without : (v a : ℕ) → ℕ
 without v a = min a v + (a - suc v)
 
 without-apart : (v a b : ℕ) → a ≢ v → b ≢ v → without v a ≡ without v b → a ≡ b
@@ -108,13 +91,6 @@ seated {order} o j h =
     )))
 
 -- ---- its inverse
-
--- the rank list tells the position of each junction
-pub record Inverse (order rank : List ℕ) : Type 0 where
-  pub long : length rank ≡ length order
-  pub position : (j : ℕ) → j < length order → getD rank j 0 < length order
-  pub there : (j : ℕ) → j < length order → getD order (getD rank j 0) 0 ≡ j
-  pub back : (p : ℕ) → p < length order → getD rank (getD order p 0) 0 ≡ p
 
 -- a rank list that passes the test is the inverse, from both sides
 pub inverse : {order : List ℕ} (rank : List ℕ) → Ordered order → T (inverts order rank) → Inverse order rank
