@@ -1,47 +1,35 @@
-// The checks of each call that uses a hierarchy, one after the other, and the check of the arcs' edges. Each answers the paper's
-// verdict on its lists.
+// All the checks of each call, in the paper's order, and the check of the arcs' edges. Each answers the paper's verdict on its lists.
 
 ghost use Prim.Native.Nat.{_<_};
 ghost use mathlib.Core.Path.{_≡_};
 ghost use mathlib.Core.List.{[], _∷_};
 ghost use lib.ListN.{length};
 ghost use Rattle.rules.specs.Net.{net};
-ghost use Rattle.rules.specs.Hierarchy.{linked};
-ghost use Rattle.rules.specs.Refusals.{firstFailure, check1, check2, check3, check8};
-ghost use Rattle.rules.specs.Calls.{customiseChecks, distanceChecks};
+ghost use Rattle.rules.specs.Graph.{graph};
+ghost use Rattle.rules.specs.Hierarchy.{edgeCosts};
+ghost use Rattle.rules.specs.Refusals.{firstFailure, check1, check2, check3, lacksEdge, check8};
+ghost use Rattle.rules.specs.Calls.{buildChecks, customiseChecks, distanceChecks, routeChecks};
 ghost use Rattle.lists.specs.Lent.{verdict};
-ghost use Rattle.checks.specs.Edges.{RowOf, lacksEdge, Arcs};
+ghost use Rattle.checks.specs.Edges.{Arcs};
 use hierarchy::check_graph;
 use lists::Check;
 use lists::check_cost_lists;
 use lists::check_costs;
 use lists::check_ends;
 use lists::check_junctions;
+use lists::check_order;
 use lists::check_question;
+use lists::check_rooms;
 use lists::check_three_lists;
-use lists::find_in_row;
+use lists::check_two_lists;
+use lists::find_edge;
 use lists::position_of;
 use rules::Found;
 use rules::Junction;
-use rules::Position;
 use rules::Refusal;
 use rules::wide;
 
-// x has an edge to the higher y: it stands in the row of x.
-fn row_has(first: &[u32], heads: &[u32], x: Position, y: Position) -> bool
-    requires { ⌜ RowOf (now first) (now heads) (x .0) (y .0) ⌝ }
-    ensures { λ r. ⌜ r ≡ linked (now (first .entry)) (now (heads .entry)) (x .0) (y .0) ⌝ }
-{
-    let p = x.0 as usize;
-    let from = wide(first[p]);
-    let to = wide(first[p + 1]);
-    match find_in_row(heads, from, to, y) {
-        Found::At(_) => true,
-        Found::Nothing => false,
-    }
-}
-
-// Arc i has unequal ends, and no edge joins the positions at which they stand.
+// Arc i has unequal ends, and no edge joins the positions at which they stand: the row of the lower lacks the higher.
 fn lacks_edge(
     tails: &[u32],
     heads: &[u32],
@@ -50,8 +38,8 @@ fn lacks_edge(
     row_heads: &[u32],
     i: usize,
 ) -> bool
-    requires { ⌜ (Arcs (now tails) (now heads) (now rank) (now first) (now «row_heads»)) × (i < length (now tails)) ⌝ }
-    ensures { λ r. ⌜ r ≡ lacksEdge (now (tails .entry)) (now (heads .entry)) (now (rank .entry)) (now (first .entry)) (now («row_heads» .entry)) i ⌝ }
+    requires { ⌜ (Arcs (now tails) (now heads) (now rank) (graph (now first) (now «row_heads»))) × (i < length (now tails)) ⌝ }
+    ensures { λ r. ⌜ r ≡ lacksEdge (now (tails .entry)) (now (heads .entry)) (now (rank .entry)) (graph (now (first .entry)) (now («row_heads» .entry))) i ⌝ }
 {
     let tail = Junction(tails[i]);
     let head = Junction(heads[i]);
@@ -61,21 +49,27 @@ fn lacks_edge(
     let a = position_of(rank, tail);
     let b = position_of(rank, head);
     if a.0 < b.0 {
-        return !row_has(first, row_heads, a, b);
+        let Found::At(_) = find_edge(first, row_heads, a, b) else {
+            return true;
+        };
+        return false;
     }
-    !row_has(first, row_heads, b, a)
+    let Found::At(_) = find_edge(first, row_heads, b, a) else {
+        return true;
+    };
+    false
 }
 
 // 8: every arc with unequal ends has an edge.
-pub fn check_edges(
+fn check_edges(
     tails: &[u32],
     heads: &[u32],
     rank: &[u32],
     first: &[u32],
     row_heads: &[u32],
 ) -> Check
-    requires { ⌜ Arcs (now tails) (now heads) (now rank) (now first) (now «row_heads») ⌝ }
-    ensures { λ r. ⌜ verdict r ≡ check8 (now (tails .entry)) (now (heads .entry)) (now (rank .entry)) (now (first .entry)) (now («row_heads» .entry)) ⌝ }
+    requires { ⌜ Arcs (now tails) (now heads) (now rank) (graph (now first) (now «row_heads»)) ⌝ }
+    ensures { λ r. ⌜ verdict r ≡ check8 (now (tails .entry)) (now (heads .entry)) (now (rank .entry)) (graph (now (first .entry)) (now («row_heads» .entry))) ⌝ }
 {
     let mut i = 0;
     while i < tails.len() {
@@ -85,6 +79,32 @@ pub fn check_edges(
         i += 1;
     }
     Check::Passes
+}
+
+// All of build's checks but 6, in the paper's order.
+pub fn check_build(
+    tails: &[u32],
+    heads: &[u32],
+    order: &[u32],
+    rank: &[u32],
+    first: &[u32],
+) -> Check
+    ensures { λ r. ⌜ verdict r ≡ buildChecks (now (tails .entry)) (now (heads .entry)) (now (order .entry)) (now (rank .entry)) (now (first .entry)) ⌝ }
+{
+    let n = order.len();
+    if let Check::Fails(refusal) = check_junctions(n) {
+        return Check::Fails(refusal);
+    }
+    if let Check::Fails(refusal) = check_two_lists(tails, heads) {
+        return Check::Fails(refusal);
+    }
+    if let Check::Fails(refusal) = check_ends(n, tails, heads) {
+        return Check::Fails(refusal);
+    }
+    if let Check::Fails(refusal) = check_order(order) {
+        return Check::Fails(refusal);
+    }
+    check_rooms(n, rank, first)
 }
 
 // 1, 2 and 3: the arcs of customise and route.
@@ -100,7 +120,7 @@ fn check_arcs(n: usize, tails: &[u32], heads: &[u32], costs: &[u32]) -> Check
     check_ends(n, tails, heads)
 }
 
-// All of customise's checks, in the paper's order; route's begin with them.
+// All of customise's checks, in the paper's order.
 pub fn check_customise(
     tails: &[u32],
     heads: &[u32],
@@ -112,9 +132,10 @@ pub fn check_customise(
     up: &[u32],
     down: &[u32],
 ) -> Check
-    ensures { λ r. ⌜ verdict r ≡ customiseChecks (net (now (tails .entry)) (now (heads .entry)) (now (costs .entry)) (now (order .entry))) (now (rank .entry)) (now (first .entry)) (now («row_heads» .entry)) (now (up .entry)) (now (down .entry)) ⌝ }
+    ensures { λ r. ⌜ verdict r ≡ customiseChecks (net (now (tails .entry)) (now (heads .entry)) (now (costs .entry)) (now (order .entry))) (now (rank .entry)) (graph (now (first .entry)) (now («row_heads» .entry))) (edgeCosts (now (up .entry)) (now (down .entry))) ⌝ }
 {
-    if let Check::Fails(refusal) = check_arcs(order.len(), tails, heads, costs) {
+    let n = order.len();
+    if let Check::Fails(refusal) = check_arcs(n, tails, heads, costs) {
         return Check::Fails(refusal);
     }
     if let Check::Fails(refusal) = check_graph(order, rank, first, row_heads) {
@@ -126,7 +147,7 @@ pub fn check_customise(
     if let Check::Fails(refusal) = check_costs(costs) {
         return Check::Fails(refusal);
     }
-    check_cost_lists(wide(first[order.len()]), up, down)
+    check_cost_lists(wide(first[n]), up, down)
 }
 
 // All of distance's checks, in the paper's order.
@@ -140,15 +161,48 @@ pub fn check_distance(
     from: Junction,
     to: Junction,
 ) -> Check
-    ensures { λ r. ⌜ verdict r ≡ distanceChecks (now (order .entry)) (now (rank .entry)) (now (first .entry)) (now («row_heads» .entry)) (now (up .entry)) (now (down .entry)) (from .0) (to .0) ⌝ }
+    ensures { λ r. ⌜ verdict r ≡ distanceChecks (now (order .entry)) (now (rank .entry)) (graph (now (first .entry)) (now («row_heads» .entry))) (edgeCosts (now (up .entry)) (now (down .entry))) (from .0) (to .0) ⌝ }
 {
-    if let Check::Fails(refusal) = check_junctions(order.len()) {
+    let n = order.len();
+    if let Check::Fails(refusal) = check_junctions(n) {
         return Check::Fails(refusal);
     }
     if let Check::Fails(refusal) = check_graph(order, rank, first, row_heads) {
         return Check::Fails(refusal);
     }
-    if let Check::Fails(refusal) = check_cost_lists(wide(first[order.len()]), up, down) {
+    if let Check::Fails(refusal) = check_cost_lists(wide(first[n]), up, down) {
+        return Check::Fails(refusal);
+    }
+    check_question(n, from, to)
+}
+
+// All of route's checks but 12 and 13: customise's, and then 11.
+pub fn check_route(
+    tails: &[u32],
+    heads: &[u32],
+    costs: &[u32],
+    order: &[u32],
+    rank: &[u32],
+    first: &[u32],
+    row_heads: &[u32],
+    up: &[u32],
+    down: &[u32],
+    from: Junction,
+    to: Junction,
+) -> Check
+    ensures { λ r. ⌜ verdict r ≡ routeChecks (net (now (tails .entry)) (now (heads .entry)) (now (costs .entry)) (now (order .entry))) (now (rank .entry)) (graph (now (first .entry)) (now («row_heads» .entry))) (edgeCosts (now (up .entry)) (now (down .entry))) (from .0) (to .0) ⌝ }
+{
+    if let Check::Fails(refusal) = check_customise(
+        tails,
+        heads,
+        costs,
+        order,
+        rank,
+        first,
+        row_heads,
+        up,
+        down,
+    ) {
         return Check::Fails(refusal);
     }
     check_question(order.len(), from, to)

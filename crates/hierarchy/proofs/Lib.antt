@@ -1,3 +1,6 @@
-pub mod SameRows
-pub mod RowLaws
-pub mod GraphLaws
+pub mod Verdict
+pub mod SeatsAgree
+pub mod InOrder
+pub mod RowHolds
+pub mod RowsHold
+pub mod IsHierarchy

@@ -5,28 +5,34 @@ ghost use mathlib.Core.Path.{_≡_};
 ghost use mathlib.Core.List.{[], _∷_};
 ghost use lib.ListN.{length};
 ghost use lib.Seq.{slice};
+ghost use Rattle.rules.specs.Graph.{graph};
 ghost use Rattle.rules.specs.Refusals.{firstFailure, check4, check7};
 ghost use Rattle.lists.specs.Lent.{verdict};
 ghost use Rattle.hierarchy.specs.Tests.{seatsAgree, rowsHold, inOrder, rowHolds, RowsFrom};
 use lists::Check;
 use lists::check_order;
+use lists::junction_at;
+use lists::position_of;
+use rules::Position;
 use rules::Refusal;
 use rules::wide;
 
 // The rank list is as long as the order and gives back every position: then the order is one, too.
 fn ranks_order(order: &[u32], rank: &[u32]) -> bool
+    requires { ⌜ length (now order) ≤ 4096 ⌝ }
     ensures { λ r. ⌜ r ≡ seatsAgree (now (order .entry)) (now (rank .entry)) ⌝ }
 {
     if rank.len() != order.len() {
         return false;
     }
+    let n = order.len() as u32;
     let mut p = 0;
-    while p < order.len() {
-        let j = wide(order[p]);
-        if order.len() <= j {
+    while p < n {
+        let j = junction_at(order, Position(p));
+        if n <= j.0 {
             return false;
         }
-        if wide(rank[j]) != p {
+        if position_of(rank, j).0 != p {
             return false;
         }
         p += 1;
@@ -35,14 +41,14 @@ fn ranks_order(order: &[u32], rank: &[u32]) -> bool
 }
 
 // The entries from k to end are those that stand `gap` places behind them: it goes to the end in any case, so that many are compared at once.
-fn same_entries(heads: &[u32], k: usize, end: usize, gap: usize) -> bool
-    requires { ⌜ (k ≤ end) × (end + gap ≤ length (now heads)) ⌝ }
-    ensures { λ r. ⌜ r ≡ inOrder (slice k end (now (heads .entry))) (slice (k + gap) (end + gap) (now (heads .entry))) ⌝ }
+fn same_entries(row_heads: &[u32], k: usize, end: usize, gap: usize) -> bool
+    requires { ⌜ (k ≤ end) × (end + gap ≤ length (now «row_heads»)) ⌝ }
+    ensures { λ r. ⌜ r ≡ inOrder (slice k end (now («row_heads» .entry))) (slice (k + gap) (end + gap) (now («row_heads» .entry))) ⌝ }
 {
     let mut same = true;
     let mut at = k;
     while at < end {
-        if heads[at + gap] != heads[at] {
+        if row_heads[at + gap] != row_heads[at] {
             same = false;
         }
         at += 1;
@@ -52,9 +58,9 @@ fn same_entries(heads: &[u32], k: usize, end: usize, gap: usize) -> bool
 
 // The entries from k to end come in order among those from j to stop, which stand behind them: the gap from an entry to its like only grows,
 // and an end needs watching only where it grows.
-fn comes_in(heads: &[u32], k: usize, end: usize, j: usize, stop: usize) -> bool
-    requires { ⌜ (k ≤ end) × (end ≤ j) × (j ≤ stop) × (stop ≤ length (now heads)) ⌝ }
-    ensures { λ r. ⌜ r ≡ inOrder (slice k end (now (heads .entry))) (slice j stop (now (heads .entry))) ⌝ }
+fn comes_in(row_heads: &[u32], k: usize, end: usize, j: usize, stop: usize) -> bool
+    requires { ⌜ (k ≤ end) × (end ≤ j) × (j ≤ stop) × (stop ≤ length (now «row_heads»)) ⌝ }
+    ensures { λ r. ⌜ r ≡ inOrder (slice k end (now («row_heads» .entry))) (slice j stop (now («row_heads» .entry))) ⌝ }
 {
     let most = stop - end;
     let mut gap = j - k;
@@ -62,11 +68,11 @@ fn comes_in(heads: &[u32], k: usize, end: usize, j: usize, stop: usize) -> bool
         return false;
     }
     if gap == most {
-        return same_entries(heads, k, end, gap);
+        return same_entries(row_heads, k, end, gap);
     }
     let mut at = k;
     while at < end {
-        if heads[at + gap] == heads[at] {
+        if row_heads[at + gap] == row_heads[at] {
             at += 1;
         } else {
             if gap == most {
@@ -79,33 +85,36 @@ fn comes_in(heads: &[u32], k: usize, end: usize, j: usize, stop: usize) -> bool
 }
 
 // The row of p: empty, or the parent is above p and below n and the rest comes in order in the parent's row.
-fn row_holds(n: usize, first: &[u32], heads: &[u32], p: usize) -> bool
-    requires { ⌜ (p < n) × (length (now first) ≡ suc n) × (RowsFrom n (now first) (now heads) (p + 1)) ⌝ }
-    ensures { λ r. ⌜ r ≡ rowHolds n (now (first .entry)) (now (heads .entry)) p ⌝ }
+fn row_holds(n: usize, first: &[u32], row_heads: &[u32], p: Position) -> bool
+    requires { ⌜ (p .0 < n) × (length (now first) ≡ suc n) × (RowsFrom n (graph (now first) (now «row_heads»)) (p .0 + 1)) ⌝ }
+    ensures { λ r. ⌜ r ≡ rowHolds n (graph (now (first .entry)) (now («row_heads» .entry))) (p .0) ⌝ }
 {
-    let from = wide(first[p]);
-    let to = wide(first[p + 1]);
+    let row = p.0 as usize;
+    let from = wide(first[row]);
+    let to = wide(first[row + 1]);
     if to < from {
         return false;
     }
     if from == to {
         return true;
     }
-    let parent = wide(heads[from]);
-    if parent <= p {
+    let parent = Position(row_heads[from]);
+    if parent.0 <= p.0 {
         return false;
     }
-    if n <= parent {
+    let above = parent.0 as usize;
+    if n <= above {
         return false;
     }
-    let low = wide(first[parent]);
-    let high = wide(first[parent + 1]);
-    comes_in(heads, from + 1, to, low, high)
+    let low = wide(first[above]);
+    let high = wide(first[above + 1]);
+    comes_in(row_heads, from + 1, to, low, high)
 }
 
-// first and heads are the rows of a hierarchy of n positions: from the last row down, so that a parent's row is known to hold.
-fn rows_hold(n: usize, first: &[u32], heads: &[u32]) -> bool
-    ensures { λ r. ⌜ r ≡ rowsHold n (now (first .entry)) (now (heads .entry)) ⌝ }
+// first and row_heads are the rows of a hierarchy of n positions: from the last row down, so that a parent's row is known to hold.
+fn rows_hold(n: usize, first: &[u32], row_heads: &[u32]) -> bool
+    requires { ⌜ n ≤ 4096 ⌝ }
+    ensures { λ r. ⌜ r ≡ rowsHold n (graph (now (first .entry)) (now («row_heads» .entry))) ⌝ }
 {
     if first.len() == 0 {
         return false;
@@ -116,13 +125,13 @@ fn rows_hold(n: usize, first: &[u32], heads: &[u32]) -> bool
     if first[0] != 0 {
         return false;
     }
-    if heads.len() < wide(first[n]) {
+    if row_heads.len() < wide(first[n]) {
         return false;
     }
-    let mut p = n;
+    let mut p = n as u32;
     while 0 < p {
         p -= 1;
-        if !row_holds(n, first, heads, p) {
+        if !row_holds(n, first, row_heads, Position(p)) {
             return false;
         }
     }
@@ -131,9 +140,9 @@ fn rows_hold(n: usize, first: &[u32], heads: &[u32]) -> bool
 
 // 4 and 7 together: where the rank list gives back every position both the order and the rank list are right; only else is 4
 // looked for.
-pub fn check_graph(order: &[u32], rank: &[u32], first: &[u32], heads: &[u32]) -> Check
+pub fn check_graph(order: &[u32], rank: &[u32], first: &[u32], row_heads: &[u32]) -> Check
     requires { ⌜ length (now order) ≤ 4096 ⌝ }
-    ensures { λ r. ⌜ verdict r ≡ firstFailure (check4 (now (order .entry)) ∷ check7 (now (order .entry)) (now (rank .entry)) (now (first .entry)) (now (heads .entry)) ∷ []) ⌝ }
+    ensures { λ r. ⌜ verdict r ≡ firstFailure (check4 (now (order .entry)) ∷ check7 (now (order .entry)) (now (rank .entry)) (graph (now (first .entry)) (now («row_heads» .entry))) ∷ []) ⌝ }
 {
     if !ranks_order(order, rank) {
         if let Check::Fails(fault) = check_order(order) {
@@ -141,7 +150,7 @@ pub fn check_graph(order: &[u32], rank: &[u32], first: &[u32], heads: &[u32]) ->
         }
         return Check::Fails(Refusal::NotAHierarchy);
     }
-    if !rows_hold(order.len(), first, heads) {
+    if !rows_hold(order.len(), first, row_heads) {
         return Check::Fails(Refusal::NotAHierarchy);
     }
     Check::Passes

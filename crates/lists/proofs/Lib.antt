@@ -1,1 +1,4 @@
-pub mod ListLaws
+pub mod Refusals
+pub mod Orders
+pub mod Found
+pub mod Filled

@@ -1,14 +1,16 @@
 // The checks on what is lent, and the smallest steps over lent lists. Each check answers the paper's verdict on its lists.
 
-ghost use Prim.Native.Nat.{ℕ, suc, _+_, _≤_, _<_};
+ghost use Prim.Native.Nat.{_+_, _≤_, _<_};
 ghost use mathlib.Core.Path.{_≡_};
 ghost use mathlib.Core.List.{[], _∷_};
-ghost use lib.ListN.{length, getD, set};
+ghost use lib.ListN.{length, getD};
 ghost use Rattle.rules.specs.Net.{rankList};
+ghost use Rattle.rules.specs.Graph.{graph};
 ghost use Rattle.rules.specs.Refusals.{check1, check2, check3, check4, check5, unlawful, check9, check10, check11};
-ghost use Rattle.rules.specs.Calls.{buildChecks};
-ghost use Rattle.theory.proofs.Ranks.{Ordered};
-ghost use Rattle.lists.specs.Lent.{verdict, foundIn, part, chosen};
+ghost use Rattle.rules.specs.Hierarchy.{edgeCosts};
+ghost use Rattle.theory.specs.Orders.{Ordered};
+ghost use Rattle.theory.specs.Rows.{Rows, count};
+ghost use Rattle.lists.specs.Lent.{verdict, foundIn, edgeFound, part, chosen, filled};
 use rules::Cost;
 use rules::Direction;
 use rules::Found;
@@ -131,34 +133,8 @@ pub fn check_rooms(n: usize, rank: &[u32], first: &[u32]) -> Check
     Check::Passes
 }
 
-// All of build's checks but 6, in the paper's order.
-pub fn check_build(
-    tails: &[u32],
-    heads: &[u32],
-    order: &[u32],
-    rank: &[u32],
-    first: &[u32],
-) -> Check
-    ensures { λ r. ⌜ verdict r ≡ buildChecks (now (tails .entry)) (now (heads .entry)) (now (order .entry)) (now (rank .entry)) (now (first .entry)) ⌝ }
-{
-    let n = order.len();
-    if let Check::Fails(refusal) = check_junctions(n) {
-        return Check::Fails(refusal);
-    }
-    if let Check::Fails(refusal) = check_two_lists(tails, heads) {
-        return Check::Fails(refusal);
-    }
-    if let Check::Fails(refusal) = check_ends(n, tails, heads) {
-        return Check::Fails(refusal);
-    }
-    if let Check::Fails(refusal) = check_order(order) {
-        return Check::Fails(refusal);
-    }
-    check_rooms(n, rank, first)
-}
-
 // A cost that is neither CLOSED nor from 1 to the greatest.
-pub fn is_unlawful(cost: Cost) -> bool
+fn is_unlawful(cost: Cost) -> bool
     ensures { λ r. ⌜ r ≡ unlawful (cost .0) ⌝ }
 {
     let c = cost.0;
@@ -187,7 +163,7 @@ pub fn check_costs(costs: &[u32]) -> Check
 
 // 10: the up and the down list have a place for each of the e edges.
 pub fn check_cost_lists(e: usize, up: &[u32], down: &[u32]) -> Check
-    ensures { λ r. ⌜ verdict r ≡ check10 e (now (up .entry)) (now (down .entry)) ⌝ }
+    ensures { λ r. ⌜ verdict r ≡ check10 e (edgeCosts (now (up .entry)) (now (down .entry))) ⌝ }
 {
     if up.len() < e {
         return Check::Fails(Refusal::CostLists);
@@ -229,20 +205,31 @@ pub fn junction_at(order: &[u32], p: Position) -> Junction
     Junction(order[x])
 }
 
-// The place of the edge to y among the places from `from` up to `to` of heads, or nothing: it reads to the end.
-pub fn find_in_row(heads: &[u32], from: usize, to: usize, y: Position) -> Found
-    requires { ⌜ (from ≤ to) × (to ≤ length (now heads)) ⌝ }
-    ensures { λ r. ⌜ r ≡ foundIn (now (heads .entry)) from to (y .0) ⌝ }
+// The place of the edge to y among the places from `from` up to `to` of the rows, or nothing: it reads to the end.
+fn find_in_row(row_heads: &[u32], from: usize, to: usize, y: Position) -> Found
+    requires { ⌜ (from ≤ to) × (to ≤ length (now «row_heads»)) ⌝ }
+    ensures { λ r. ⌜ r ≡ foundIn (now («row_heads» .entry)) from to (y .0) ⌝ }
 {
     let want = y.0;
     let mut k = from;
     while k < to {
-        if heads[k] == want {
+        if row_heads[k] == want {
             return Found::At(k);
         }
         k += 1;
     }
     Found::Nothing
+}
+
+// The place of the edge between two positions, the lower first, or nothing.
+pub fn find_edge(first: &[u32], row_heads: &[u32], x: Position, y: Position) -> Found
+    requires { ⌜ Rows (count (now first)) (graph (now first) (now «row_heads»)) × (x .0 < count (now first)) ⌝ }
+    ensures { λ r. ⌜ r ≡ edgeFound (graph (now (first .entry)) (now («row_heads» .entry))) (x .0) (y .0) ⌝ }
+{
+    let row = x.0 as usize;
+    let from = wide(first[row]);
+    let to = wide(first[row + 1]);
+    find_in_row(row_heads, from, to, y)
 }
 
 // A row's costs: a part of the up list or of the down list, by direction, and no copy of either.
@@ -254,10 +241,22 @@ pub fn row_costs<'a>(
     to: usize,
 ) -> &'a [u32]
     requires { ⌜ (from ≤ to) × (to ≤ length (now up)) × (to ≤ length (now down)) ⌝ }
-    ensures { λ r. ⌜ now r ≡ part from to (chosen d (now (up .entry)) (now (down .entry))) ⌝ }
+    ensures { λ r. ⌜ now r ≡ part from to (chosen d (edgeCosts (now (up .entry)) (now (down .entry)))) ⌝ }
 {
     match d {
         Direction::Up => &up[from..to],
         Direction::Down => &down[from..to],
+    }
+}
+
+// One value at every place of a list from `from` on.
+pub fn fill(list: &mut [u32], from: usize, value: u32)
+    requires { ⌜ from ≤ length (now list) ⌝ }
+    ensures { λ _. ⌜ now (list .exit) ≡ filled (now (list .entry)) from value ⌝ }
+{
+    let mut i = from;
+    while i < list.len() {
+        list[i] = value;
+        i += 1;
     }
 }

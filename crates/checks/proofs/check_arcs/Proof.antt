@@ -1,9 +1,10 @@
 -- 1, 2 and 3 are made one after the other, and each that passes leaves the rest. Assumes nothing.
 use mathlib.Core.Path.{refl}
+use mathlib.Core.List.{[], _∷_}
 use lib.ListN.{length}
+use Rattle.theory.proofs.Accepted.{passes2}
 use Rattle.theory.proofs.CheckGroups.{first-last}
-use Rattle.hierarchy.proofs.GraphLaws.{told}
-use Rattle.checks.proofs.CheckLaws.{lists-same}
+use Rattle.hierarchy.proofs.Verdict.{told}
 use borrow.Author.Needs.{needs}
 use Rattle.checks.proofs.check_arcs.Statement.{statement}
 use Rattle.checks.proofs.check_arcs.Tie as tie
@@ -17,7 +18,7 @@ returns-2 c = let x = c .before .before .before .before in
 
 check-ends-requires : tie.Need-check-ends-requires
 check-ends-requires c κs = let a = c .before .before .before .before .before .before .before .before .before .args in
-    lists-same (length (a .tails .now)) (length (a .heads .now)) (length (a .costs .now)) (told (c .before .before .check-three-lists .ensures) (c .enum-told2 .given .1))
+    passes2 (length (a .tails .now)) (length (a .heads .now)) (length (a .costs .now) ∷ []) (told (c .before .before .check-three-lists .ensures) (c .enum-told2 .given .1)) .0
 
 returns-3 : tie.Need-returns-3
 returns-3 c = let y = c .before in

@@ -3,11 +3,13 @@ use mathlib.Core.Path.{refl}
 use mathlib.Core.List.{[], _∷_}
 use lib.ListN.{length}
 use Rattle.theory.proofs.CheckGroups.{first-last, customise-groups}
-use Rattle.hierarchy.proofs.GraphLaws.{told}
-use Rattle.checks.proofs.CheckLaws.{graph-long, arcs-few, arcs-known}
+use Rattle.hierarchy.proofs.Verdict.{told}
+use Rattle.hierarchy.proofs.IsHierarchy.{graph-long}
+use Rattle.checks.proofs.Arcs.{arcs-few, arcs-known}
 use borrow.Author.Needs.{needs}
 use Rattle.checks.proofs.check_customise.Statement.{statement}
 use Rattle.checks.proofs.check_customise.Tie as tie
+use Rattle.rules.specs.Graph.{graph}
 
 returns : tie.Need-returns
 returns c = rw (customise-groups, told (c .before .before .before .check-arcs .ensures) (c .before .refusal .given .1)) refl
@@ -24,7 +26,7 @@ returns-2 c = let x = c .before .before .before .before in
 check-edges-requires : tie.Need-check-edges-requires
 check-edges-requires c κs = let x = c .before .before .before in
     let a = x .before .before .before .before .before .before .before .before .before .before .before .before .args in
-    arcs-known (a .order .now) (a .tails .now) (a .heads .now) (a .rank .now) (a .first .now) (a .row-heads .now) (length (a .costs .now))
+    arcs-known (a .tails .now) (a .heads .now) (a .order .now) (a .rank .now) (graph (a .first .now) (a .row-heads .now)) (length (a .costs .now))
     (told (x .before .before .check-arcs .ensures) (x .enum-told .given .1)) (told (c .before .before .check-graph .ensures) (c .enum-told2 .given .1))
 
 returns-3 : tie.Need-returns-3
@@ -52,7 +54,7 @@ returns-4 c = let z = c .before .before .before .before in
 shared-slice-read-wide : tie.Need-shared-slice-read-wide
 shared-slice-read-wide c = let y = c .before .before .before .before .before .before .before in
     let a = y .before .before .before .before .before .before .before .before .before .before .before .before .before .before .before .args in
-    graph-long (a .order .now) (a .rank .now) (a .first .now) (a .row-heads .now) (told (y .before .before .check-graph .ensures) (y .enum-told2 .given .1))
+    graph-long (a .order .now) (a .rank .now) (graph (a .first .now) (a .row-heads .now)) (told (y .before .before .check-graph .ensures) (y .enum-told2 .given .1))
 
 returns-5 : tie.Need-returns-5
 returns-5 c = let v = c .before .before .before in

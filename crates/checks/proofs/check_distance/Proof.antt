@@ -3,11 +3,12 @@ use mathlib.Core.Path.{refl}
 use lib.ListN.{length}
 use Rattle.theory.proofs.Accepted.{passes1}
 use Rattle.theory.proofs.CheckGroups.{first-last, distance-groups}
-use Rattle.hierarchy.proofs.GraphLaws.{told}
-use Rattle.checks.proofs.CheckLaws.{graph-long}
+use Rattle.hierarchy.proofs.Verdict.{told}
+use Rattle.hierarchy.proofs.IsHierarchy.{graph-long}
 use borrow.Author.Needs.{needs}
 use Rattle.checks.proofs.check_distance.Statement.{statement}
 use Rattle.checks.proofs.check_distance.Tie as tie
+use Rattle.rules.specs.Graph.{graph}
 
 returns : tie.Need-returns
 returns c = rw (distance-groups, told (c .before .before .before .check-junctions .ensures) (c .before .refusal .given .1)) refl
@@ -22,7 +23,7 @@ returns-2 c = let x = c .before .before .before .before in
 shared-slice-read-wide : tie.Need-shared-slice-read-wide
 shared-slice-read-wide c = let y = c .before in
     let a = y .before .before .before .before .before .before .before .before .before .before .before .before .args in
-    graph-long (a .order .now) (a .rank .now) (a .first .now) (a .row-heads .now) (told (y .before .before .check-graph .ensures) (y .enum-told2 .given .1))
+    graph-long (a .order .now) (a .rank .now) (graph (a .first .now) (a .row-heads .now)) (told (y .before .before .check-graph .ensures) (y .enum-told2 .given .1))
 
 returns-3 : tie.Need-returns-3
 returns-3 c = let y = c .before .before .before .before .before .before in

@@ -4,21 +4,21 @@ use borrow.Author.Needs.{needs}
 use Prim.Native.Nat.{_+_, _-_}
 use mathlib.Core.Path.{refl}
 use native.Mathlib.Omega.{arith}
-use Rattle.hierarchy.proofs.RowLaws.{Left, left-few, left-start, left-all, left-hit, left-miss, left-over, same-rows-are}
+use Rattle.hierarchy.proofs.InOrder.{Left, left-few, left-start, left-all, left-hit, left-miss, left-over, same-rows-are}
 use Rattle.hierarchy.proofs.comes_in.Statement.{statement}
 use Rattle.hierarchy.proofs.comes_in.Tie as tie
 
 abbrev Inv-loop : tie.InvT-loop
-Inv-loop heads k end j stop most gap₀ at₀ gap at = Left heads k end j stop most at gap
+Inv-loop row-heads k end j stop most gap₀ at₀ gap at = Left row-heads k end j stop most at gap
 
 abbrev μ-loop : tie.MeasureT-loop
-μ-loop heads k end j stop most gap₀ at₀ gap at = (end - at) + (most - gap)
+μ-loop row-heads k end j stop most gap₀ at₀ gap at = (end - at) + (most - gap)
 
 returns : tie.Need-returns Inv-loop μ-loop
 returns c =
     let s = c .before .before in
     let a = s .args in
-    left-few (a .heads .now) (a .k) (a .end) (a .j) (a .stop) _ _ (s .pre .0) (s .pre .1) (s .pre .2) (s .pre .3) refl refl (c .if1 .taken)
+    left-few (a .row-heads .now) (a .k) (a .end) (a .j) (a .stop) _ _ (s .pre .0) (s .pre .1) (s .pre .2) (s .pre .3) refl refl (c .if1 .taken)
 
 same-entries-requires : tie.Need-same-entries-requires Inv-loop μ-loop
 same-entries-requires c κs =
@@ -29,13 +29,13 @@ returns-2 : tie.Need-returns-2 Inv-loop μ-loop
 returns-2 c =
     let s = c .before .before .before .before in
     let a = s .args in
-    same-rows-are (a .heads .now) (a .k) (a .end) (a .j) (a .stop) _ _ (c .same-entries .result) (s .pre .0) (s .pre .1) (s .pre .2) refl refl (c .before .if2 .taken) (c .same-entries .ensures)
+    same-rows-are (a .row-heads .now) (a .k) (a .end) (a .j) (a .stop) _ _ (c .same-entries .result) (s .pre .0) (s .pre .1) (s .pre .2) refl refl (c .before .if2 .taken) (c .same-entries .ensures)
 
 loop-holds : tie.Need-loop-holds Inv-loop μ-loop
 loop-holds c =
     let s = c .before .before .before in
     let a = s .args in
-    left-start (a .heads .now) (a .k) (a .end) (a .j) (a .stop) _ _ (s .pre .0) (s .pre .1) (s .pre .2) refl refl (λ l. omega (arith, c .before .if1 .left))
+    left-start (a .row-heads .now) (a .k) (a .end) (a .j) (a .stop) _ _ (s .pre .0) (s .pre .1) (s .pre .2) refl refl (λ l. omega (arith, c .before .if1 .left))
 
 add-if3 : tie.Need-add-if3 Inv-loop μ-loop
 add-if3 c = let l = c .before .loop .inv in omega (arith, l .enough, l .most-is, c .loop-test .taken)

@@ -1,20 +1,19 @@
 -- `same_entries` meets its contract: the entries before `at` are the same, or the answer is settled. Assumes nothing.
 use borrow.Author.Needs.{needs}
 use Prim.Native.Nat.{_-_}
-use native.Mathlib.Omega.{arith}
-use Rattle.theory.proofs.Laws.{either}
-use Rattle.hierarchy.proofs.RowLaws.{Compared, compared-start, compared-same, compared-other, compared-all}
+use Rattle.theory.proofs.Words.{either}
+use Rattle.hierarchy.proofs.InOrder.{Compared, compared-start, compared-same, compared-other, compared-all}
 use Rattle.hierarchy.proofs.same_entries.Statement.{statement}
 use Rattle.hierarchy.proofs.same_entries.Tie as tie
 
 abbrev Inv-loop : tie.InvT-loop
-Inv-loop heads k end gap same₀ at₀ same at = Compared heads k end gap at same
+Inv-loop row-heads k end gap same₀ at₀ same at = Compared row-heads k end gap at same
 
 abbrev μ-loop : tie.MeasureT-loop
-μ-loop heads k end gap same₀ at₀ same at = end - at
+μ-loop row-heads k end gap same₀ at₀ same at = end - at
 
 loop-holds : tie.Need-loop-holds Inv-loop μ-loop
-loop-holds c = let a = c .args in compared-start (a .heads .now) (a .k) (a .end) (a .gap) (c .pre .0)
+loop-holds c = let a = c .args in compared-start (a .row-heads .now) (a .k) (a .end) (a .gap) (c .pre .0)
 
 loop-again : tie.Need-loop-again Inv-loop μ-loop
 loop-again c =

@@ -1,11 +1,10 @@
 -- `check_costs` meets its contract: no fault before arc i. Assumes nothing.
 use borrow.Author.Needs.{needs}
-use Rattle.theory.proofs.Laws.{true-holds, true-false, holds-true}
-use mathlib.Core.Path.{_≡_, sym, ap, _∙_}
-use Prim.Native.Nat.{_≤_, _-_}
+use Rattle.theory.proofs.Words.{true-holds, true-false, holds-true}
+use mathlib.Core.Path.{sym, _∙_}
+use Prim.Native.Nat.{_-_}
 use lib.ListN.{length, getD}
 use Rattle.theory.proofs.Verdicts.{Faultless, faultless-start, faultless-more, faultless-fails, faultless-passes}
-use native.Mathlib.Omega.{arith}
 use Rattle.rules.specs.Refusals.{unlawful, check9}
 use Rattle.lists.proofs.check_costs.Statement.{statement}
 use Rattle.lists.proofs.check_costs.Tie as tie

@@ -1,11 +1,11 @@
 -- `check_ends` meets its contract: no fault before place i. Assumes nothing.
 use borrow.Author.Needs.{needs}
-use Prim.Native.Nat.{_≤_, _-_}
+use Prim.Native.Nat.{_-_}
 use lib.ListN.{length}
 use Rattle.theory.proofs.Verdicts.{Faultless, faultless-start, faultless-more, faultless-fails, faultless-passes}
 use native.Mathlib.Omega.{arith}
-use Rattle.rules.specs.Refusals.{check3}
-use Rattle.lists.proofs.ListLaws.{endFault, tail-fault, head-fault, ends-good}
+use Rattle.rules.specs.Refusals.{check3, endFault}
+use Rattle.lists.proofs.Refusals.{tail-fault, head-fault, ends-good}
 use Rattle.lists.proofs.check_ends.Statement.{statement}
 use Rattle.lists.proofs.check_ends.Tie as tie
 

@@ -2,9 +2,9 @@
 use borrow.Author.Needs.{needs}
 use Rattle.theory.proofs.Verdicts.{Faultless, faultless-start, faultless-more, faultless-fails, faultless-passes}
 use native.Mathlib.Omega.{arith}
-use Rattle.rules.specs.Refusals.{check4}
-use Rattle.lists.proofs.ListLaws.{orderFault, Seen, seen-none, seen-more, large-fault, twice-fault, entry-good}
-use Prim.Native.Nat.{_≤_, _-_}
+use Rattle.rules.specs.Refusals.{check4, orderFault}
+use Rattle.lists.proofs.Orders.{Seen, seen-none, seen-more, large-fault, twice-fault, entry-good}
+use Prim.Native.Nat.{_-_}
 use lib.ListN.{length}
 use Rattle.lists.proofs.check_order.Statement.{statement}
 use Rattle.lists.proofs.check_order.Tie as tie

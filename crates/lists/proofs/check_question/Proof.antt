@@ -1,7 +1,7 @@
 -- `check_question` meets its contract. Assumes nothing.
 use borrow.Author.Needs.{needs}
 use native.Mathlib.Omega.{arith}
-use Rattle.lists.proofs.ListLaws.{start-fails, target-fails, question-passes}
+use Rattle.lists.proofs.Refusals.{start-fails, target-fails, question-passes}
 use Rattle.lists.proofs.check_question.Statement.{statement}
 use Rattle.lists.proofs.check_question.Tie as tie
 

@@ -1,6 +1,6 @@
 -- `check_rooms` meets its contract. Assumes nothing.
 use borrow.Author.Needs.{needs}
-use Rattle.lists.proofs.ListLaws.{rank-fails, first-fails, rooms-pass}
+use Rattle.lists.proofs.Refusals.{rank-fails, first-fails, rooms-pass}
 use Rattle.lists.proofs.check_rooms.Statement.{statement}
 use Rattle.lists.proofs.check_rooms.Tie as tie
 

@@ -1,9 +1,9 @@
 -- `fill_rank` meets its contract: the positions below p are written down. Assumes nothing.
 use borrow.Author.Needs.{needs}
-use Prim.Native.Nat.{_≤_, _-_}
+use Prim.Native.Nat.{_-_}
 use lib.ListN.{length}
 use native.Mathlib.Omega.{arith}
-use Rattle.lists.proofs.ListLaws.{Ranking, ranking-start, ranking-more, ranking-all}
+use Rattle.lists.proofs.Orders.{Ranking, ranking-start, ranking-more, ranking-all}
 use Rattle.lists.proofs.fill_rank.Statement.{statement}
 use Rattle.lists.proofs.fill_rank.Tie as tie
 

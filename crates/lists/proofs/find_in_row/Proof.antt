@@ -1,8 +1,7 @@
 -- `find_in_row` meets its contract: not found before place k. Assumes nothing.
 use borrow.Author.Needs.{needs}
-use Prim.Native.Nat.{_≤_, _-_}
-use native.Mathlib.Omega.{arith}
-use Rattle.lists.proofs.ListLaws.{Unfound, unfound-start, unfound-more, found-at, found-none}
+use Prim.Native.Nat.{_-_}
+use Rattle.lists.proofs.Found.{Unfound, unfound-start, unfound-more, found-at, found-none}
 use Rattle.lists.proofs.find_in_row.Statement.{statement}
 use Rattle.lists.proofs.find_in_row.Tie as tie
 
@@ -13,7 +12,7 @@ abbrev μ-loop : tie.MeasureT-loop
 μ-loop heads from to want k₀ k = to - k
 
 loop-holds : tie.Need-loop-holds Inv-loop μ-loop
-loop-holds c = unfound-start (c .args .heads .now) (c .args .from) (c .args .to) (c .args .y .0) (c .pre .0)
+loop-holds c = unfound-start (c .args .row-heads .now) (c .args .from) (c .args .to) (c .args .y .0) (c .pre .0)
 
 returns : tie.Need-returns Inv-loop μ-loop
 returns c = found-at (c .before .before .before .loop .inv) (c .before .before .loop-test .taken) (c .if1 .taken)

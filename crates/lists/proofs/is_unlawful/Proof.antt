@@ -1,6 +1,5 @@
 -- `is_unlawful` meets its contract. Assumes nothing.
-use borrow.Author.Needs.{needs}
-use Rattle.lists.proofs.ListLaws.{zero-unlawful, small-lawful, dear-unlawful}
+use Rattle.lists.proofs.Refusals.{zero-unlawful, small-lawful, dear-unlawful}
 use Rattle.lists.proofs.is_unlawful.Statement.{statement}
 use Rattle.lists.proofs.is_unlawful.Tie as tie
 

@@ -1,0 +1,66 @@
+-- The test of one row: a law for each way that it goes. Assumes nothing.
+use Prim.Native.Nat.{ℕ, zero, suc, _+_, _-_, _≤_, _<_}
+use mathlib.Core.Path.{_≡_, refl, sym, ap, _∙_}
+use mathlib.Core.Bool.{Bool, true, false, _&&_}
+use native.Mathlib.Omega.{arith}
+use native.Mathlib.Numerals.{add-one}
+use lib.Dec.{ltb, leb}
+use lib.ListN.{length, getD}
+use lib.Seq.{slice, slice-cons, slice-empty}
+use borrow.Author.Tests.{lt-ltb, le-ltb, le-leb, lt-leb}
+use Rattle.rules.specs.Graph.{Graph}
+use Rattle.rules.specs.Hierarchy.{rowAt}
+use Rattle.theory.proofs.Rows.{next-row}
+use Rattle.hierarchy.specs.Tests.{inOrder, underParent, rowHolds, RowsFrom}
+
+module _ (n : ℕ) (G : Graph) (p a b : ℕ) (low : a ≡ getD (G .first) p 0) (high : b ≡ getD (G .first) (p + 1) 0) where
+  -- the row's test by its ends
+  by-ends : rowHolds n G p ≡ (leb a b && underParent n G p (slice a b (G .heads)))
+  unfolding rowHolds
+  by-ends = rw (low, high, next-row G p) refl
+
+  -- the row ends before it starts
+  pub row-falls : b < a → false ≡ rowHolds n G p
+  row-falls l = sym (by-ends ∙ rw (lt-leb a b l) refl)
+
+  -- there is nothing in the row
+  pub row-empty : a ≡ b → true ≡ rowHolds n G p
+  unfolding underParent
+  row-empty e = sym (by-ends ∙ rw (le-leb a b (omega arith), e, slice-empty b (G .heads)) refl)
+
+  module _ (c : ℕ) (parent : c ≡ getD (G .heads) a 0) (filled : a < b) (fits : b ≤ length (G .heads)) where
+    -- the row's test by its parent
+    by-parent : rowHolds n G p ≡ (ltb p c && ltb c n && inOrder (slice (a + 1) b (G .heads)) (rowAt G c))
+    unfolding underParent
+    by-parent = by-ends ∙ rw (le-leb a b (omega arith), slice-cons a b (G .heads) 0 filled fits, add-one a, parent) refl
+
+    -- the parent is no higher than p
+    pub row-low : c ≤ p → false ≡ rowHolds n G p
+    row-low l = sym (by-parent ∙ rw (le-ltb p c l) refl)
+
+    -- the parent is no position
+    pub row-high : p < c → n ≤ c → false ≡ rowHolds n G p
+    row-high l m = sym (by-parent ∙ rw (lt-ltb p c l, le-ltb c n m) refl)
+
+    -- the rest of the row decides
+    pub row-rest : (from to : ℕ) (r : Bool) → p < c → c < n → from ≡ getD (G .first) c 0 → to ≡ getD (G .first) (c + 1) 0 → r ≡ inOrder (slice (a + 1) b (G .heads)) (slice from to (G .heads))
+        → r ≡ rowHolds n G p
+    row-rest from to r l m x y e =
+        let g : to ≡ getD (G .first) (suc c) 0 = y ∙ next-row G c in
+        e ∙ sym (by-parent ∙ rw (lt-ltb p c l, lt-ltb c n m, x, g) refl)
+
+-- later rows start no earlier
+rises-from : {n p : ℕ} {G : Graph} → RowsFrom n G p → (d : ℕ) → p + d ≤ n → getD (G .first) p 0 ≤ getD (G .first) (p + d) 0
+rises-from {p = p} {G} rows zero l = omega (arith, ap (λ k. getD (G .first) k 0) (let e : p + 0 ≡ p = omega arith in e))
+rises-from {p = p} {G} rows (suc d) l =
+    let e : p + suc d ≡ suc (p + d) = omega arith in
+    omega (arith, ap (λ k. getD (G .first) k 0) e, rises-from rows d (omega arith), rows .rise (p + d) (omega arith) (omega arith) .0)
+
+-- the parent's row lies behind the row, and within heads
+pub row-within : {n p : ℕ} {G : Graph} → RowsFrom n G (p + 1) → (c from to : ℕ) → p < c → c < n → from ≡ getD (G .first) c 0 → to ≡ getD (G .first) (c + 1) 0
+    → (getD (G .first) (p + 1) 0 ≤ from) × (from ≤ to) × (to ≤ length (G .heads))
+row-within {p = p} {G} rows c from to l m x y =
+    let (u, v) = rows .rise c (omega arith) m in
+    let g : to ≡ getD (G .first) (suc c) 0 = y ∙ next-row G c in
+    let e : p + 1 + (c - (p + 1)) ≡ c = omega arith in
+    (omega (arith, rises-from rows (c - (p + 1)) (omega arith), ap (λ k. getD (G .first) k 0) e), omega arith, omega arith)
