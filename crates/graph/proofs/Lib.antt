@@ -1,3 +1,3 @@
-pub mod Written
-pub mod Grows
-pub mod Finished
+pub mod Writes
+pub mod Grown
+pub mod Contracted

@@ -1,2 +1,2 @@
-pub mod Growing
+pub mod Grown
 pub mod Contracted

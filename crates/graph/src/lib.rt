@@ -4,187 +4,211 @@
 ghost use Prim.Native.Nat.{ℕ, suc, _+_, _-_, _≤_, _<_};
 ghost use mathlib.Core.Path.{_≡_};
 ghost use mathlib.Core.Bool.{Bool};
-ghost use mathlib.Core.List.{[], _++_};
-ghost use lib.ListN.{length, take, replicate};
+ghost use mathlib.Core.List.{[]};
+ghost use lib.ListN.{length};
 ghost use Rattle.rules.specs.Net.{net, rankList};
-ghost use Rattle.theory.proofs.BuildFits.{Buildable};
-ghost use Rattle.sets.specs.NextMembers.{members, Holds, Rises};
-ghost use Rattle.graph.specs.Growing.{Writes, Laid, Ready, Grows, Fills};
+ghost use Rattle.rules.specs.Graph.{graph};
+ghost use Rattle.theory.specs.Accepted.{Buildable};
+ghost use Rattle.gather.specs.NextMembers.{Holds, Rises};
+ghost use Rattle.graph.specs.declared.Room.the-variants.{Next};
+ghost use Rattle.graph.specs.Grown.{Writes, Laid, roads, Ready, Grows, Fills};
 ghost use Rattle.graph.specs.Contracted.{left, contracted};
+use gather::gather_row;
+use gather::thread_arcs;
+use gather::thread_child;
+use lists::fill;
+use rules::Position;
 use rules::wide;
-use sets::gather_row;
-use sets::thread_arcs;
-use sets::thread_child;
 
-// What writing rows answers: the next free place of heads, or that the room is full.
+// What writing rows answers: the next free place of row_heads, or that the room is full.
 pub enum Room {
     Next(usize),
     Full,
 }
 
-// Writes the members of the set of p, in ascending order, from place `at` of heads on, where there is a place for every position above p.
-fn write_fitting(after: &[u32; 4096], n: usize, p: usize, heads: &mut [u32], at: usize) -> usize
-    requires { ⌜ Rises (now after) × (p < n) × (n ≤ 4096) × (at + (n - p) ≤ length (now heads)) ⌝ }
-    ensures { λ r. ⌜ ((S : ℕ → Bool) → Holds S n p (now (after .entry)) → (r ≤ length (now (heads .exit))) × (take r (now (heads .exit)) ≡ take at (now (heads .entry)) ++ members S n p)) ⌝ }
+// Writes the members of the set of p, in ascending order, from place `at` of row_heads on, where there is a place for every position above p.
+fn write_fitting(
+    row_heads: &mut [u32],
+    after: &[u32; 4096],
+    n: usize,
+    p: Position,
+    at: usize,
+) -> usize
+    requires { ⌜ Rises (now after) × (p .0 < n) × (n ≤ 4096) × (at + (n - p .0) ≤ length (now «row_heads»)) ⌝ }
+    ensures { λ r. ⌜ ((S : ℕ → Bool) → Holds S n (p .0) (now (after .entry)) → Writes S n (p .0) at (now («row_heads» .entry)) (now («row_heads» .exit)) (Next r)) ⌝ }
 {
+    let x = p.0 as usize;
     let mut k = at;
-    let mut member = wide(after[p]);
+    let mut member = wide(after[x]);
     while member < n {
-        heads[k] = member as u32;
+        row_heads[k] = member as u32;
         k += 1;
         member = wide(after[member]);
     }
     k
 }
 
-// Writes the members of the set of p, in ascending order, from place `at` of heads on, and watches for the end of the room only where it is near.
-fn write_row(after: &[u32; 4096], n: usize, p: usize, heads: &mut [u32], at: usize) -> Room
-    requires { ⌜ Rises (now after) × (p < n) × (n ≤ 4096) × (at ≤ length (now heads)) ⌝ }
-    ensures { λ r. ⌜ ((S : ℕ → Bool) → Holds S n p (now (after .entry)) → Writes S n p at (now (heads .entry)) (now (heads .exit)) r) ⌝ }
+// Writes the members of the set of p, in ascending order, from place `at` of row_heads on, and watches for the end of the room only where it is near.
+fn write_row(row_heads: &mut [u32], after: &[u32; 4096], n: usize, p: Position, at: usize) -> Room
+    requires { ⌜ Rises (now after) × (p .0 < n) × (n ≤ 4096) × (at ≤ length (now «row_heads»)) ⌝ }
+    ensures { λ r. ⌜ ((S : ℕ → Bool) → Holds S n (p .0) (now (after .entry)) → Writes S n (p .0) at (now («row_heads» .entry)) (now («row_heads» .exit)) r) ⌝ }
 {
-    if n - p <= heads.len() - at {
-        return Room::Next(write_fitting(after, n, p, heads, at));
+    let x = p.0 as usize;
+    if n - x <= row_heads.len() - at {
+        return Room::Next(write_fitting(row_heads, after, n, p, at));
     }
     let mut k = at;
-    let mut x = wide(after[p]);
-    while x < n {
-        if heads.len() <= k {
+    let mut next = wide(after[x]);
+    while next < n {
+        if row_heads.len() <= k {
             return Room::Full;
         }
-        heads[k] = x as u32;
+        row_heads[k] = next as u32;
         k += 1;
-        x = wide(after[x]);
+        next = wide(after[next]);
     }
     Room::Next(k)
 }
 
-// Writes the row of p from place `at` of row_heads on, and threads p by its parent.
+// Writes the row of p behind the rows below p, and threads p by its parent.
 fn add_row(
     order: &[u32],
-    tails: &[u32],
-    heads: &[u32],
-    rank: &[u32],
-    arc_at: &[u16; 4096],
-    arc_next: &[u16; 16384],
-    p: usize,
-    at: usize,
     first: &mut [u32],
     row_heads: &mut [u32],
+    arc_at: &[u16; 4096],
+    arc_next: &[u16],
+    arc_high: &[u16],
     child_at: &mut [u16; 4096],
     child_next: &mut [u16; 4096],
     after: &mut [u32; 4096],
+    p: Position,
 ) -> Room
-    requires { ⌜ Ready (now tails) (now heads) (now order) (now rank) (now «arc_at») (now «arc_next») p at (now first) (now «row_heads») (now «child_at») (now «child_next») (now after) ⌝ }
-    ensures { λ r. ⌜ Grows (net (now (tails .entry)) (now (heads .entry)) [] (now (order .entry))) p (now («row_heads» .entry)) (now (first .exit)) (now («row_heads» .exit)) (now («child_at» .exit)) (now («child_next» .exit)) (now (after .exit)) r ⌝ }
+    requires { ⌜ Ready (now order) (graph (now first) (now «row_heads»)) (now «arc_at») (now «arc_next») (now «arc_high») (now «child_at») (now «child_next») (now after) (p .0) ⌝ }
+    ensures { λ r. ⌜ ((R : Ready (now (order .entry)) (graph (now (first .entry)) (now («row_heads» .entry))) (now («arc_at» .entry)) (now («arc_next» .entry)) (now («arc_high» .entry)) (now («child_at» .entry)) (now («child_next» .entry)) (now (after .entry)) (p .0)) → Grows (roads (R .laid)) (graph (now (first .exit)) (now («row_heads» .exit))) (now («child_at» .exit)) (now («child_next» .exit)) (now (after .exit)) (p .0) (length (now («row_heads» .entry))) r) ⌝ }
 {
     let n = order.len();
+    let x = p.0 as usize;
     gather_row(
-        tails,
-        heads,
-        rank,
-        arc_at,
-        arc_next,
         first,
         row_heads,
+        arc_at,
+        arc_next,
+        arc_high,
         child_at,
         child_next,
+        after,
         n,
         p,
-        after,
     );
-    let Room::Next(e) = write_row(after, n, p, row_heads, at) else {
+    let at = wide(first[x]);
+    let Room::Next(e) = write_row(row_heads, after, n, p, at) else {
         return Room::Full;
     };
-    first[p + 1] = e as u32;
-    thread_child(n, p, wide(after[p]), child_at, child_next);
+    first[x + 1] = e as u32;
+    let parent = Position(after[x]);
+    thread_child(child_at, child_next, n, p, parent);
     Room::Next(e)
 }
 
 // Writes all rows, for each position from 0 upward, until one does not fit.
 fn add_rows(
     order: &[u32],
-    tails: &[u32],
-    heads: &[u32],
-    rank: &[u32],
-    arc_at: &[u16; 4096],
-    arc_next: &[u16; 16384],
     first: &mut [u32],
     row_heads: &mut [u32],
+    arc_at: &[u16; 4096],
+    arc_next: &[u16],
+    arc_high: &[u16],
 ) -> Room
-    requires { ⌜ Laid (now tails) (now heads) (now order) (now rank) (now «arc_at») (now «arc_next») × (length (now first) ≡ suc (length (now order))) ⌝ }
-    ensures { λ r. ⌜ Fills (net (now (tails .entry)) (now (heads .entry)) [] (now (order .entry))) (now («row_heads» .entry)) (now (first .exit)) (now («row_heads» .exit)) r ⌝ }
+    requires { ⌜ Laid (now order) (now «arc_at») (now «arc_next») (now «arc_high») × (length (now first) ≡ suc (length (now order))) ⌝ }
+    ensures { λ r. ⌜ ((L : Laid (now (order .entry)) (now («arc_at» .entry)) (now («arc_next» .entry)) (now («arc_high» .entry))) → Fills (roads L) (graph (now (first .exit)) (now («row_heads» .exit))) (length (now («row_heads» .entry))) r) ⌝ }
 {
     let mut child_at = [0u16; 4096];
     let mut child_next = [0u16; 4096];
     let mut after = [4096u32; 4096];
     first[0] = 0;
     let mut p = 0;
-    let mut at = 0;
     while p < order.len() {
-        let Room::Next(e) = add_row(
+        if let Room::Full = add_row(
             order,
-            tails,
-            heads,
-            rank,
-            arc_at,
-            arc_next,
-            p,
-            at,
             first,
             row_heads,
+            arc_at,
+            arc_next,
+            arc_high,
             &mut child_at,
             &mut child_next,
             &mut after,
-        ) else {
+            Position(p as u32),
+        ) {
             return Room::Full;
-        };
-        at = e;
+        }
         p += 1;
     }
-    Room::Next(at)
+    Room::Next(wide(first[p]))
 }
 
-// Noughts from place `from` of the list on.
-pub fn clear(list: &mut [u32], from: usize)
-    requires { ⌜ from ≤ length (now list) ⌝ }
-    ensures { λ _. ⌜ now (list .exit) ≡ take from (now (list .entry)) ++ replicate (length (now (list .exit)) - from) 0 ⌝ }
-{
-    let mut i = from;
-    while i < list.len() {
-        list[i] = 0;
-        i += 1;
-    }
-}
-
-// The rows of the shortcut graph, written into first and row_heads; all 0 if there is not room for them.
-pub fn contract(
-    order: &[u32],
+// The contraction itself, in lent room for the threads of arcs.
+fn contract_with(
     tails: &[u32],
     heads: &[u32],
+    order: &[u32],
+    rank: &[u32],
+    first: &mut [u32],
+    row_heads: &mut [u32],
+    arc_next: &mut [u16],
+    arc_high: &mut [u16],
+) -> Room
+    requires { ⌜ Buildable (now tails) (now heads) (now order) (now rank) (now first) × (now rank ≡ rankList (now order)) × (length (now tails) ≤ length (now «arc_next»)) × (length (now tails) ≤ length (now «arc_high»)) ⌝ }
+    ensures { λ r. ⌜ left r (graph (now (first .exit)) (now («row_heads» .exit))) ≡ contracted (net (now (tails .entry)) (now (heads .entry)) [] (now (order .entry))) (length (now («row_heads» .entry))) ⌝ }
+{
+    let mut arc_at = [0u16; 4096];
+    thread_arcs(tails, heads, rank, &mut arc_at, arc_next, arc_high);
+    let Room::Next(edges) = add_rows(order, first, row_heads, &arc_at, arc_next, arc_high) else {
+        fill(first, 0, 0);
+        fill(row_heads, 0, 0);
+        return Room::Full;
+    };
+    fill(row_heads, edges, 0);
+    Room::Next(edges)
+}
+
+// The rows of the shortcut graph, written into first and row_heads; all 0 if there is not room for them. The room for the threads of arcs goes by
+// their number, so that few arcs do not pay for the clearing of much room.
+pub fn contract(
+    tails: &[u32],
+    heads: &[u32],
+    order: &[u32],
     rank: &[u32],
     first: &mut [u32],
     row_heads: &mut [u32],
 ) -> Room
     requires { ⌜ Buildable (now tails) (now heads) (now order) (now rank) (now first) × (now rank ≡ rankList (now order)) ⌝ }
-    ensures { λ r. ⌜ left r (now (first .exit)) (now («row_heads» .exit)) ≡ contracted (net (now (tails .entry)) (now (heads .entry)) [] (now (order .entry))) (length (now («row_heads» .entry))) ⌝ }
+    ensures { λ r. ⌜ left r (graph (now (first .exit)) (now («row_heads» .exit))) ≡ contracted (net (now (tails .entry)) (now (heads .entry)) [] (now (order .entry))) (length (now («row_heads» .entry))) ⌝ }
 {
-    let mut arc_at = [0u16; 4096];
-    let mut arc_next = [0u16; 16384];
-    thread_arcs(tails, heads, rank, &mut arc_at, &mut arc_next);
-    let Room::Next(e) = add_rows(
-        order,
+    if tails.len() <= 2048 {
+        let mut next = [0u16; 2048];
+        let mut high = [0u16; 2048];
+        return contract_with(
+            tails,
+            heads,
+            order,
+            rank,
+            first,
+            row_heads,
+            &mut next,
+            &mut high,
+        );
+    }
+    let mut next = [0u16; 16384];
+    let mut high = [0u16; 16384];
+    contract_with(
         tails,
         heads,
+        order,
         rank,
-        &arc_at,
-        &arc_next,
         first,
         row_heads,
-    ) else {
-        clear(first, 0);
-        clear(row_heads, 0);
-        return Room::Full;
-    };
-    clear(row_heads, e);
-    Room::Next(e)
+        &mut next,
+        &mut high,
+    )
 }

@@ -1,0 +1,3 @@
+pub mod NextMembers
+pub mod Arcs
+pub mod Gathered

@@ -1,4 +1,0 @@
-pub mod NextMembers
-pub mod Threads
-pub mod Arcs
-pub mod Gathered
