@@ -1,6 +1,9 @@
-pub mod PlaceLaws
-pub mod ArcLaws
-pub mod OfferLaws
-pub mod WaitLaws
-pub mod RowLaws
-pub mod WholeLaws
+pub mod At
+pub mod Stored
+pub mod Laid
+pub mod Laying
+pub mod Spread
+pub mod Waiting
+pub mod Crossed
+pub mod Holding
+pub mod Turned

@@ -2,13 +2,18 @@
 
 ghost use Prim.Native.Nat.{_+_, _≤_, _<_};
 ghost use mathlib.Core.Path.{_≡_};
-ghost use lib.ListN.{length, getD, replicate};
-ghost use Rattle.rules.specs.Costs.{closed};
+ghost use lib.ListN.{length, getD, set};
 ghost use Rattle.rules.specs.Net.{net};
-ghost use Rattle.theory.proofs.Accepted.{Accepted};
-ghost use Rattle.lists.proofs.ListLaws.{Placed};
-ghost use Rattle.customise.specs.Steps.{count, Ahead, Edge, Put, ArcFits, Laid, Turn, Spread, SameBelow, Corner, Lowered, Room, Beside, Crossed, Queued, Waiting, Turned, CustomisedLists};
-use lists::find_in_row;
+ghost use Rattle.rules.specs.Graph.{graph};
+ghost use Rattle.rules.specs.Hierarchy.{edgeCosts};
+ghost use Rattle.rules.specs.Calls.{customisedCosts};
+ghost use Rattle.theory.specs.Accepted.{Accepted};
+ghost use Rattle.theory.specs.Rows.{Lists, count};
+ghost use Rattle.customise.specs.Edges.{Edge, laidOn, ArcFits, laid};
+ghost use Rattle.customise.specs.Waiting.{Turn, Spread, SameBelow, Waiting, PassedBelow, queued};
+ghost use Rattle.customise.specs.Turns.{Within, lowered, Beside, Crossed, Turned};
+use lists::fill;
+use lists::find_edge;
 use lists::position_of;
 use rules::Cost;
 use rules::Found;
@@ -16,29 +21,7 @@ use rules::Junction;
 use rules::Position;
 use rules::wide;
 
-// CLOSED at every place: no arc is laid yet, and places past the edges stay so.
-fn close(list: &mut [u32])
-    ensures { λ _. ⌜ now (list .exit) ≡ replicate (length (now (list .entry))) closed ⌝ }
-{
-    let mut k = 0;
-    while k < list.len() {
-        list[k] = Cost::CLOSED.0;
-        k += 1;
-    }
-}
-
-// The place of the edge to y among the places from `from` up to `to`, one of which has it.
-fn edge_place(row_heads: &[u32], from: usize, to: usize, y: Position) -> usize
-    requires { ⌜ Ahead (now «row_heads») from to (y .0) ⌝ }
-    ensures { λ r. ⌜ Placed (now («row_heads» .entry)) from to (y .0) r ⌝ }
-{
-    let Found::At(k) = find_in_row(row_heads, from, to, y) else {
-        return from;
-    };
-    k
-}
-
-// The cost of one direction of the edge (x, y), x below y, into the list of that direction.
+// The cost from x to y into the list of one direction, at the place of their edge, where x is below y.
 fn lay_cost(
     first: &[u32],
     row_heads: &[u32],
@@ -47,13 +30,15 @@ fn lay_cost(
     y: Position,
     cost: Cost,
 )
-    requires { ⌜ Edge (now first) (now «row_heads») (length (now list)) (x .0) (y .0) ⌝ }
-    ensures { λ _. ⌜ Put (now (first .entry)) (now («row_heads» .entry)) (x .0) (y .0) (cost .0) (now (list .entry)) (now (list .exit)) ⌝ }
+    requires { ⌜ Edge (graph (now first) (now «row_heads»)) (length (now list)) (x .0) (y .0) ⌝ }
+    ensures { λ _. ⌜ now (list .exit) ≡ laidOn (graph (now (first .entry)) (now («row_heads» .entry))) (now (list .entry)) (x .0) (y .0) (cost .0) ⌝ }
 {
-    let p = x.0 as usize;
-    let from = wide(first[p]);
-    let to = wide(first[p + 1]);
-    let k = edge_place(row_heads, from, to, y);
+    if y.0 <= x.0 {
+        return;
+    }
+    let Found::At(k) = find_edge(first, row_heads, x, y) else {
+        return;
+    };
     list[k] = cost.0;
 }
 
@@ -68,25 +53,19 @@ fn lay_arc(
     head: Junction,
     cost: Cost,
 )
-    requires { ⌜ ArcFits (now rank) (now first) (now «row_heads») (length (now up)) (length (now down)) (tail .0) (head .0) ⌝ }
-    ensures { λ _. ⌜ Laid (now (rank .entry)) (now (first .entry)) (now («row_heads» .entry)) (tail .0) (head .0) (cost .0) (now (up .entry)) (now (down .entry)) (now (up .exit)) (now (down .exit)) ⌝ }
+    requires { ⌜ Lists (graph (now first) (now «row_heads»)) (edgeCosts (now up) (now down)) × ArcFits (now rank) (graph (now first) (now «row_heads»)) (tail .0) (head .0) ⌝ }
+    ensures { λ _. ⌜ edgeCosts (now (up .exit)) (now (down .exit)) ≡ laid (now (rank .entry)) (graph (now (first .entry)) (now («row_heads» .entry))) (tail .0) (head .0) (cost .0) (edgeCosts (now (up .entry)) (now (down .entry))) ⌝ }
 {
-    if tail.0 == head.0 {
-        return;
-    }
     let x = position_of(rank, tail);
     let y = position_of(rank, head);
-    if x.0 < y.0 {
-        lay_cost(first, row_heads, up, x, y, cost);
-        return;
-    }
+    lay_cost(first, row_heads, up, x, y, cost);
     lay_cost(first, row_heads, down, y, x, cost);
 }
 
 // The row of x spread out: at each position that it holds, the place of the edge there; what stands at lower positions stays.
-fn spread_row(first: &[u32], row_heads: &[u32], x: usize, places: &mut [u32; 4096])
-    requires { ⌜ Turn (now first) (now «row_heads») x × (length (now places) ≡ 4096) ⌝ }
-    ensures { λ _. ⌜ Spread (now (first .entry)) (now («row_heads» .entry)) x (now (places .exit)) × SameBelow x (now (places .entry)) (now (places .exit)) ⌝ }
+fn spread_row(first: &[u32], row_heads: &[u32], places: &mut [u32; 4096], x: usize)
+    requires { ⌜ Turn (graph (now first) (now «row_heads»)) x × (length (now places) ≡ 4096) ⌝ }
+    ensures { λ _. ⌜ Spread (graph (now (first .entry)) (now («row_heads» .entry))) x (now (places .exit)) × SameBelow x (now (places .entry)) (now (places .exit)) ⌝ }
 {
     let end = wide(first[x + 1]);
     let mut k = wide(first[x]);
@@ -99,8 +78,8 @@ fn spread_row(first: &[u32], row_heads: &[u32], x: usize, places: &mut [u32; 409
 
 // One lower triangle: the edge at place k, between the neighbours at places i and j of a row, costs no more than the way over the row's position.
 fn lower_edge(up: &mut [u32], down: &mut [u32], i: usize, j: usize, k: usize)
-    requires { ⌜ Corner (length (now up)) (length (now down)) i j k ⌝ }
-    ensures { λ _. ⌜ Lowered i j k (now (up .entry)) (now (down .entry)) (now (up .exit)) (now (down .exit)) ⌝ }
+    requires { ⌜ Within (edgeCosts (now up) (now down)) i × Within (edgeCosts (now up) (now down)) j × Within (edgeCosts (now up) (now down)) k ⌝ }
+    ensures { λ _. ⌜ edgeCosts (now (up .exit)) (now (down .exit)) ≡ lowered i j k (edgeCosts (now (up .entry)) (now (down .entry))) ⌝ }
 {
     let rising = Cost::sum(Cost(down[i]), Cost(up[j]));
     let falling = Cost::sum(Cost(down[j]), Cost(up[i]));
@@ -118,8 +97,8 @@ fn lower_over(
     z: usize,
     i: usize,
 )
-    requires { ⌜ Beside (now first) (now «row_heads») (length (now up)) (length (now down)) z i × Spread (now first) (now «row_heads») (getD (now «row_heads») i 0) (now places) ⌝ }
-    ensures { λ _. ⌜ Crossed (now (first .entry)) (now («row_heads» .entry)) i (getD (now (first .entry)) (z + 1) 0) (now (up .entry)) (now (down .entry)) (now (up .exit)) (now (down .exit)) ⌝ }
+    requires { ⌜ Beside (graph (now first) (now «row_heads»)) (edgeCosts (now up) (now down)) z i × Spread (graph (now first) (now «row_heads»)) (getD (now «row_heads») i 0) (now places) ⌝ }
+    ensures { λ _. ⌜ Crossed (graph (now (first .entry)) (now («row_heads» .entry))) i (getD (now (first .entry)) (z + 1) 0) (edgeCosts (now (up .entry)) (now (down .entry))) (edgeCosts (now (up .exit)) (now (down .exit))) ⌝ }
 {
     let end = wide(first[z + 1]);
     let mut j = i + 1;
@@ -140,8 +119,8 @@ fn queue_row(
     z: usize,
     i: usize,
 )
-    requires { ⌜ Turn (now first) (now «row_heads») z × (getD (now first) z 0 ≤ i) × (i ≤ getD (now first) (z + 1) 0) ⌝ }
-    ensures { λ _. ⌜ Queued (now (first .entry)) (now («row_heads» .entry)) z i (now (links .entry)) (now (places .entry)) (now (links .exit)) (now (places .exit)) ⌝ }
+    requires { ⌜ Turn (graph (now first) (now «row_heads»)) z × (getD (now first) z 0 ≤ i) × (i ≤ getD (now first) (z + 1) 0) ⌝ }
+    ensures { λ _. ⌜ (now (links .exit) ≡ queued (graph (now (first .entry)) (now («row_heads» .entry))) (now (links .entry)) z i) × (now (places .exit) ≡ set (now (places .entry)) z i) ⌝ }
 {
     let end = wide(first[z + 1]);
     places[z] = i as u32;
@@ -162,8 +141,8 @@ fn lower_row(
     places: &mut [u32; 4096],
     x: usize,
 )
-    requires { ⌜ Room (now first) (now «row_heads») (length (now up)) (length (now down)) × Turn (now first) (now «row_heads») x × Spread (now first) (now «row_heads») x (now places) × Waiting (now first) (now «row_heads») x x x (count (now first)) (getD (now links) x 0) (now links) (now places) ⌝ }
-    ensures { λ _. ⌜ Turned (now (first .entry)) (now («row_heads» .entry)) x (now (up .entry)) (now (down .entry)) (x + 1) (now (up .exit)) (now (down .exit)) × Waiting (now (first .entry)) (now («row_heads» .entry)) x x (x + 1) (count (now (first .entry))) 0 (now (links .exit)) (now (places .exit)) ⌝ }
+    requires { ⌜ Lists (graph (now first) (now «row_heads»)) (edgeCosts (now up) (now down)) × (x < count (now first)) × Spread (graph (now first) (now «row_heads»)) x (now places) × Waiting (graph (now first) (now «row_heads»)) x (getD (now links) x 0) (now links) (now places) × PassedBelow (graph (now first) (now «row_heads»)) x x (now places) ⌝ }
+    ensures { λ _. ⌜ Turned (graph (now (first .entry)) (now («row_heads» .entry))) x (edgeCosts (now (up .entry)) (now (down .entry))) (x + 1) (edgeCosts (now (up .exit)) (now (down .exit))) × Waiting (graph (now (first .entry)) (now («row_heads» .entry))) x 0 (now (links .exit)) (now (places .exit)) × PassedBelow (graph (now (first .entry)) (now («row_heads» .entry))) x (x + 1) (now (places .exit)) ⌝ }
 {
     let mut k = wide(links[x]);
     while 0 < k {
@@ -179,14 +158,14 @@ fn lower_row(
 // In the turn of x `links` has, below x, the next row that waits with this one, and from x on the first row that waits for this position, each
 // plus 1; `places` has, below x, where the row waits, and above x the place of the edge from x.
 fn lower_all(n: usize, first: &[u32], row_heads: &[u32], up: &mut [u32], down: &mut [u32])
-    requires { ⌜ Room (now first) (now «row_heads») (length (now up)) (length (now down)) × (n ≡ count (now first)) ⌝ }
-    ensures { λ _. ⌜ Turned (now (first .entry)) (now («row_heads» .entry)) 0 (now (up .entry)) (now (down .entry)) n (now (up .exit)) (now (down .exit)) ⌝ }
+    requires { ⌜ Lists (graph (now first) (now «row_heads»)) (edgeCosts (now up) (now down)) × (n ≡ count (now first)) ⌝ }
+    ensures { λ _. ⌜ Turned (graph (now (first .entry)) (now («row_heads» .entry))) 0 (edgeCosts (now (up .entry)) (now (down .entry))) n (edgeCosts (now (up .exit)) (now (down .exit))) ⌝ }
 {
     let mut links = [0u32; 4096];
     let mut places = [0u32; 4096];
     let mut x = 0;
     while x < n {
-        spread_row(first, row_heads, x, &mut places);
+        spread_row(first, row_heads, &mut places, x);
         lower_row(first, row_heads, up, down, &mut links, &mut places, x);
         queue_row(first, row_heads, &mut links, &mut places, x, wide(first[x]));
         x += 1;
@@ -205,11 +184,11 @@ pub fn customise_costs(
     up: &mut [u32],
     down: &mut [u32],
 )
-    requires { ⌜ Accepted (net (now tails) (now heads) (now costs) (now order)) (now rank) (now first) (now «row_heads») (now up) (now down) ⌝ }
-    ensures { λ _. ⌜ CustomisedLists (net (now (tails .entry)) (now (heads .entry)) (now (costs .entry)) (now (order .entry))) (now (first .entry)) (now («row_heads» .entry)) (length (now (up .entry))) (length (now (down .entry))) (now (up .exit)) (now (down .exit)) ⌝ }
+    requires { ⌜ Accepted (net (now tails) (now heads) (now costs) (now order)) (now rank) (graph (now first) (now «row_heads»)) (edgeCosts (now up) (now down)) ⌝ }
+    ensures { λ _. ⌜ edgeCosts (now (up .exit)) (now (down .exit)) ≡ customisedCosts (net (now (tails .entry)) (now (heads .entry)) (now (costs .entry)) (now (order .entry))) (graph (now (first .entry)) (now («row_heads» .entry))) (edgeCosts (now (up .entry)) (now (down .entry))) ⌝ }
 {
-    close(up);
-    close(down);
+    fill(up, 0, Cost::CLOSED.0);
+    fill(down, 0, Cost::CLOSED.0);
     let mut m = 0;
     while m < tails.len() {
         lay_arc(

@@ -1,36 +1,56 @@
--- `lay_cost` meets its contract: the store goes to the edge's place. Assumes nothing.
-use Rattle.customise.proofs.PlaceLaws.{edge-ahead, put-at}
+-- `lay_cost` meets its contract: the search finds the edge, and the store goes to its place. Assumes nothing.
 use borrow.Author.Needs.{needs}
+use native.Mathlib.Omega.{arith}
+use mathlib.Core.Path.{sym, _∙_}
+use Rattle.rules.specs.Graph.{graph}
+use Rattle.customise.proofs.Laid.{laid-none, edge-low, edge-some, edge-laid}
 use Rattle.customise.proofs.lay_cost.Statement.{statement}
 use Rattle.customise.proofs.lay_cost.Tie as tie
 
-edge-place-requires : tie.Need-edge-place-requires
-edge-place-requires c κs =
-    let w = c .before .before in
-    edge-ahead (w .wide .result) (c .wide2 .result) (w .before .before .before .before .before .before .pre) (w .wide .ensures) (c .wide2 .ensures)
-
 returns : tie.Need-returns
 returns c =
-    let w2 = c .before in
-    let w1 = w2 .before .before in
-    let a = w1 .before .before .before .before .before .before .args in
-    put-at (a .first .now) (a .row-heads .now) (a .x .0) (a .y .0) (w1 .wide .result) (w2 .wide2 .result) (c .edge-place .result) (a .cost .0) (a .list .now)
-    (w1 .wide .ensures) (w2 .wide2 .ensures) (c .edge-place .ensures)
+    let a = c .before .before .before .before .before .before .args in
+    laid-none (graph (a .first .now) (a .row-heads .now)) (a .list .now) (a .x .0) (a .y .0) (a .cost .0) (c .if1 .taken)
+
+find-edge-requires : tie.Need-find-edge-requires
+find-edge-requires c κs = let E = c .before .before .before .before .before .before .pre in (E .rows, edge-low E (c .if1 .left))
+
+returns-2 : tie.Need-returns-2
+returns-2 c =
+    let f = c .before .before in
+    absurd (edge-some (f .before .before .before .before .before .before .before .pre) (f .before .if1 .left) (sym (f .find-edge .ensures) ∙ c .enum-told .given .1))
+
+mul-list : tie.Need-mul-list
+mul-list c =
+    let k = c .before in
+    let f = k .before .before in
+    let s = f .before .before .before .before .before .before .before in
+    omega (arith, edge-laid (s .pre) (f .before .if1 .left) (s .args .list .now) (k .k .given .0 .0) (s .args .cost .0) (sym (f .find-edge .ensures) ∙ k .k .given .1) .0)
+
+slice-write-list : tie.Need-slice-write-list
+slice-write-list c =
+    let k = c .before in
+    let f = k .before .before in
+    let s = f .before .before .before .before .before .before .before in
+    edge-laid (s .pre) (f .before .if1 .left) (s .args .list .now) (k .k .given .0 .0) (s .args .cost .0) (sym (f .find-edge .ensures) ∙ k .k .given .1) .0
+
+returns-3 : tie.Need-returns-3
+returns-3 c =
+    let k = c .before in
+    let f = k .before .before in
+    let s = f .before .before .before .before .before .before .before in
+    edge-laid (s .pre) (f .before .if1 .left) (s .args .list .now) (k .k .given .0 .0) (s .args .cost .0) (sym (f .find-edge .ensures) ∙ k .k .given .1) .1
 
 pub lay-cost-spec : {M : Type 1} → statement M
 lay-cost-spec =
     tie.close
     (tie.spec
+    returns
+    find-edge-requires
     (λ c. search needs)
     (λ c. search needs)
+    returns-2
+    mul-list
+    slice-write-list
     (λ c. search needs)
-    (λ c κs. search needs)
-    (λ c. search needs)
-    (λ c. search needs)
-    (λ c. search needs)
-    (λ c κs. search needs)
-    edge-place-requires
-    (λ c. search needs)
-    (λ c. search needs)
-    (λ c. search needs)
-    returns)
+    returns-3)

@@ -1,15 +1,19 @@
 -- `lower_all` meets its contract: the positions below x have had their turn, and their rows wait. Assumes nothing.
 use borrow.Author.Needs.{needs}
-use Rattle.customise.proofs.RowLaws.{Turning, turning-start, turning-room, turning-turn, turning-spread, turning-queue, turning-more, turning-all}
-use lib.ListN.{replicate}
-use native.Mathlib.Omega.{arith}
 use mathlib.Core.Path.{refl}
+use native.Mathlib.Omega.{arith}
 use Prim.Native.Nat.{ℕ, _-_}
+use lib.ListN.{replicate}
+use Rattle.rules.specs.Graph.{graph}
+use Rattle.rules.specs.Hierarchy.{edgeCosts}
+use Rattle.customise.proofs.Waiting.{turn-of, turn-queue}
+use Rattle.customise.proofs.Turned.{lists-kept, Turning, turning-start, turning-spread, turning-more, turning-all}
 use Rattle.customise.proofs.lower_all.Statement.{statement}
 use Rattle.customise.proofs.lower_all.Tie as tie
 
 abbrev Inv-loop : tie.InvT-loop
-Inv-loop n first row-heads up₀ down₀ links₀ places₀ x₀ up down links places x = Turning first row-heads up₀ down₀ x up down links places
+Inv-loop n first row-heads up₀ down₀ links₀ places₀ x₀ up down links places x =
+    Turning (graph first row-heads) (edgeCosts up₀ down₀) x (edgeCosts up down) links places
 
 abbrev μ-loop : tie.MeasureT-loop
 μ-loop n first row-heads up₀ down₀ links₀ places₀ x₀ up down links places x = n - x
@@ -17,59 +21,38 @@ abbrev μ-loop : tie.MeasureT-loop
 loop-holds : tie.Need-loop-holds Inv-loop μ-loop
 loop-holds c =
     let a = c .before .before .before .before .args in
-    turning-start (a .first .now) (a .row-heads .now) (a .up .now) (a .down .now) (replicate {A = ℕ} 4096 0) refl
+    turning-start (graph (a .first .now) (a .row-heads .now)) (edgeCosts (a .up .now) (a .down .now)) (replicate {A = ℕ} 4096 0) refl
 
 spread-row-requires : tie.Need-spread-row-requires Inv-loop μ-loop
 spread-row-requires c κs =
     let p = c .before .before .before .before .before .before .before .pre in
-    let l = c .before .before .loop in
-    (turning-turn (p .0) (l .inv) (p .1) (c .before .loop-test .taken), l .inv .waits .places-long)
+    (turn-of (p .0) (omega (arith, p .1, c .before .loop-test .taken)), c .before .before .loop .inv .waits .places-long)
 
 lower-row-requires : tie.Need-lower-row-requires Inv-loop μ-loop
 lower-row-requires c κs =
     let s = c .before .before .before .before in
     let t = s .before .before in
     let p = t .before .before .before .before .before .before .pre in
-    let l = t .before .loop in
-    let e = s .spread-row .ensures in
-    (turning-room (p .0) (l .inv), turning-turn (p .0) (l .inv) (p .1) (t .loop-test .taken), e .0, turning-spread (p .0) (l .inv) (e .0) (e .1))
-
-mul-wide : tie.Need-mul-wide Inv-loop μ-loop
-mul-wide c =
-    let t = c .before .before .before .before .before .before .before .before .before .before .before .before .before in
-    let p = t .before .before .before .before .before .before .pre in
-    omega (arith, p .0 .rows .long, p .1, t .loop-test .taken)
-
-shared-slice-read-wide : tie.Need-shared-slice-read-wide Inv-loop μ-loop
-shared-slice-read-wide c =
-    let t = c .before .before .before .before .before .before .before .before .before .before .before .before .before .before in
-    let p = t .before .before .before .before .before .before .pre in
-    omega (arith, p .0 .rows .long, p .1, t .loop-test .taken)
+    let S = t .before .loop .inv in
+    let (P, W, B) = turning-spread S (s .spread-row .ensures) in
+    (lists-kept (p .0) (S .turned .kept), omega (arith, p .1, t .loop-test .taken), P, W, B)
 
 queue-row-requires : tie.Need-queue-row-requires Inv-loop μ-loop
 queue-row-requires c κs =
     let t = c .before .before .before .before .before .before .before .before .before .before .before .before .before .before .before in
     let p = t .before .before .before .before .before .before .pre in
-    let l = t .before .loop in
-    turning-queue (p .0) (l .inv) (turning-turn (p .0) (l .inv) (p .1) (t .loop-test .taken)) (c .wide .ensures)
-
-add-x : tie.Need-add-x Inv-loop μ-loop
-add-x c =
-    let t = c .before .before .before .before .before .before .before .before .before .before .before .before .before .before .before .before in
-    let p = t .before .before .before .before .before .before .pre in
-    omega (arith, p .0 .few, p .1, t .loop-test .taken)
+    turn-queue (turn-of (p .0) (omega (arith, p .1, t .loop-test .taken))) (c .wide .ensures)
 
 loop-again : tie.Need-loop-again Inv-loop μ-loop
 loop-again c =
     let o = c .before .before .before .before .before .before .before .before .before in
-    let r = o .lower-row .ensures in
     let t = o .before .before .before .before .before .before .before in
     let p = t .before .before .before .before .before .before .pre in
-    let l = t .before .loop in
-    turning-more (p .0) (l .inv) (turning-turn (p .0) (l .inv) (p .1) (t .loop-test .taken)) (r .0) (r .1) (c .before .wide .ensures) (c .queue-row .ensures)
+    turning-more (t .before .loop .inv) (turn-of (p .0) (omega (arith, p .1, t .loop-test .taken))) (o .lower-row .ensures) (c .before .wide .ensures)
+    (c .queue-row .ensures)
 
 returns : tie.Need-returns Inv-loop μ-loop
-returns c = let p = c .before .before .before .before .before .before .pre in turning-all (p .0) (c .before .loop .inv) (p .1) (c .loop-test .left)
+returns c = turning-all (c .before .loop .inv) (c .before .before .before .before .before .before .pre .1) (c .loop-test .left)
 
 pub lower-all-spec : {M : Type 1} → statement M
 lower-all-spec =
@@ -80,11 +63,11 @@ lower-all-spec =
     loop-holds
     spread-row-requires
     lower-row-requires
-    mul-wide
-    shared-slice-read-wide
+    (λ c. search needs)
+    (λ c. search needs)
     (λ c κs. search needs)
     queue-row-requires
-    add-x
+    (λ c. search needs)
     (λ c. search needs)
     loop-again
     (λ c. search needs)

@@ -1,6 +1,6 @@
 -- `lower_edge` meets its contract: the two costs are read before either is stored. Assumes nothing.
 use borrow.Author.Needs.{needs}
-use Rattle.customise.proofs.PlaceLaws.{set-least}
+use Rattle.customise.proofs.Crossed.{at-most}
 use lib.ListN.{getD}
 use Rattle.customise.proofs.lower_edge.Statement.{statement}
 use Rattle.customise.proofs.lower_edge.Tie as tie
@@ -13,10 +13,9 @@ returns c =
     let s1 = c .before .before .before .before .before .before .before .sum in
     let s2 = c .before .before .before .before .sum2 in
     let l = c .before .before .least in
-    record {
-      up-is = set-least up (a .k) (getD down (a .i) 0) (getD up (a .j) 0) (s1 .result) (l .result) (s1 .ensures) (l .ensures);
-      down-is = set-least down (a .k) (getD down (a .j) 0) (getD up (a .i) 0) (s2 .result) (c .least2 .result) (s2 .ensures) (c .least2 .ensures);
-    }
+    let u = at-most up (a .k) (getD down (a .i) 0) (getD up (a .j) 0) (s1 .result) (l .result) (s1 .ensures) (l .ensures) in
+    let w = at-most down (a .k) (getD down (a .j) 0) (getD up (a .i) 0) (s2 .result) (c .least2 .result) (s2 .ensures) (c .least2 .ensures) in
+    cc
 
 pub lower-edge-spec : {M : Type 1} → statement M
 lower-edge-spec =

@@ -1,25 +1,18 @@
 -- `lower_over` meets its contract: the places of z's row between i and j have made their offers. Assumes nothing.
 use borrow.Author.Needs.{needs}
-use Rattle.customise.proofs.OfferLaws.{Crossing, beside-in, crossing-start, crossing-j, crossing-corner, crossing-more, crossing-all}
+use Rattle.customise.proofs.Crossed.{Crossing, beside-in, crossing-start, crossing-j, crossing-corner, crossing-more, crossing-all}
 use native.Mathlib.Omega.{arith}
 use Prim.Native.Nat.{_-_}
 use Rattle.customise.proofs.lower_over.Statement.{statement}
 use Rattle.customise.proofs.lower_over.Tie as tie
+use Rattle.rules.specs.Graph.{graph}
+use Rattle.rules.specs.Hierarchy.{edgeCosts}
 
 abbrev Inv-loop : tie.InvT-loop
-Inv-loop first row-heads up₀ down₀ places z i end j₀ up down j = Crossing first row-heads z i end up₀ down₀ j up down
+Inv-loop first row-heads up₀ down₀ places z i end j₀ up down j = Crossing (graph first row-heads) z i end (edgeCosts up₀ down₀) j (edgeCosts up down)
 
 abbrev μ-loop : tie.MeasureT-loop
 μ-loop first row-heads up₀ down₀ places z i end j₀ up down j = end - j
-
-add-wide : tie.Need-add-wide Inv-loop μ-loop
-add-wide c = omega (arith, beside-in (c .before .before .before .before .pre .0) .1)
-
-mul-wide : tie.Need-mul-wide Inv-loop μ-loop
-mul-wide c = omega (arith, beside-in (c .before .before .before .before .pre .0) .1)
-
-shared-slice-read-wide : tie.Need-shared-slice-read-wide Inv-loop μ-loop
-shared-slice-read-wide c = omega (arith, beside-in (c .before .before .before .before .before .pre .0) .1)
 
 add-j : tie.Need-add-j Inv-loop μ-loop
 add-j c = omega (arith, beside-in (c .before .before .before .before .before .before .pre .0) .0)
@@ -78,9 +71,9 @@ lower-over-spec =
     (tie.spec
     Inv-loop
     μ-loop
-    add-wide
-    mul-wide
-    shared-slice-read-wide
+    (λ c. search needs)
+    (λ c. search needs)
+    (λ c. search needs)
     (λ c κs. search needs)
     add-j
     loop-holds

@@ -1,44 +1,44 @@
 -- `lower_row` meets its contract: the rows that are past x have made their offers, the others wait from k on. Assumes nothing.
 use borrow.Author.Needs.{needs}
-use Rattle.customise.proofs.RowLaws.{Walking, walking-start, walking-end, room-on, met-beside, met-spread, met-turn, met-waits, met-still, met-less, met-walks}
-use Rattle.customise.proofs.WaitLaws.{waiting-begun, waiting-first, ahead}
-use Rattle.customise.specs.Steps.{count, Spread, Waiting}
 use native.Mathlib.Omega.{arith}
 use mathlib.Core.Path.{_≡_}
 use Prim.Native.Nat.{ℕ, suc, _+_, _-_, _<_}
+use Rattle.rules.specs.Graph.{graph}
+use Rattle.rules.specs.Hierarchy.{edgeCosts}
+use Rattle.customise.specs.Waiting.{Spread, Waiting, PassedBelow}
+use Rattle.customise.proofs.Spread.{spread-still}
+use Rattle.customise.proofs.Waiting.{turn-of, unmet, met-first, met-turn, met-moves, met-waits, met-passed, met-less, passed-begun}
+use Rattle.customise.proofs.Turned.{lists-kept, Walking, walking-start, walking-end, met-beside, met-spread, met-walks}
 use Rattle.customise.proofs.lower_row.Statement.{statement}
 use Rattle.customise.proofs.lower_row.Tie as tie
 
 abbrev Inv-loop : tie.InvT-loop
 Inv-loop first row-heads up₀ down₀ links₀ places₀ x k₀ up down links places k =
-    Walking first row-heads x up₀ down₀ places up down × Waiting first row-heads x x (x + 1) (count first) k links places × Spread first row-heads x places
+    Walking (graph first row-heads) x (edgeCosts up₀ down₀) places (edgeCosts up down)
+    × Waiting (graph first row-heads) x k links places
+    × PassedBelow (graph first row-heads) x (x + 1) places
+    × Spread (graph first row-heads) x places
 
 abbrev μ-loop : tie.MeasureT-loop
-μ-loop first row-heads up₀ down₀ links₀ places₀ x k₀ up down links places k = ahead first x places
+μ-loop first row-heads up₀ down₀ links₀ places₀ x k₀ up down links places k = unmet (graph first row-heads) x places
 
 -- the row that is met next, and that it is a place of the arrays
 abbrev row : tie.In-loop Inv-loop μ-loop → ℕ
 row c = c .before .loop .k - 1
 
-met : (c : tie.In-loop Inv-loop μ-loop) → c .before .loop .k ≡ suc (row c)
-met c = omega (arith, c .loop-test .taken)
+next : (c : tie.In-loop Inv-loop μ-loop) → c .before .loop .k ≡ suc (row c)
+next c = omega (arith, c .loop-test .taken)
 
 row-in : (c : tie.In-loop Inv-loop μ-loop) → row c < 4096
 row-in c =
-    let u = c .before .before .before .before .before .before .before .before .pre .1 in
-    omega (arith, u .under, u .few, waiting-first (omega (arith, u .under)) (c .before .loop .inv .1) (row c) (met c) .0)
-
-mul-wide : tie.Need-mul-wide Inv-loop μ-loop
-mul-wide c = omega (arith, c .before .before .before .before .pre .1 .under, c .before .before .before .before .pre .1 .few)
-
-element-copy-out-wide : tie.Need-element-copy-out-wide Inv-loop μ-loop
-element-copy-out-wide c = omega (arith, c .before .before .before .before .pre .1 .under, c .before .before .before .before .pre .1 .few)
+    let p = c .before .before .before .before .before .before .before .before .pre in
+    omega (arith, p .1, p .0 .few, met-first (turn-of (p .0) (p .1)) (c .before .loop .inv .1) (row c) (next c) .0)
 
 loop-holds : tie.Need-loop-holds Inv-loop μ-loop
 loop-holds c =
     let s = c .before .before .before .before .before .before in
-    let W = s .pre .3 in
-    (walking-start (s .pre .1) (s .args .up .now) (s .args .down .now) W, waiting-begun (rw (c .wide .ensures) W), s .pre .2)
+    let p = s .pre in
+    (walking-start (turn-of (p .0) (p .1)) (edgeCosts (s .args .up .now) (s .args .down .now)) (p .4), rw (c .wide .ensures) (p .3), passed-begun (p .4), p .2)
 
 mul-wide-2 : tie.Need-mul-wide-2 Inv-loop μ-loop
 mul-wide-2 c = omega (arith, row-in c)
@@ -56,13 +56,18 @@ add-queue-row : tie.Need-add-queue-row Inv-loop μ-loop
 add-queue-row c =
     let w = c .before .before in
     let t = w .before .before .before .before in
-    omega (arith, met-turn (t .before .before .before .before .before .before .before .before .pre .1) (t .before .loop .inv .1) (row t) (w .wide3 .result) (met t) (w .wide3 .ensures) .2, t .before .before .before .before .before .before .before .shared-slice-known .given (row t + 1))
+    let k = t .before .before .before .before .before .before .before in
+    let p = k .before .pre in
+    let u = turn-of (p .0) (p .1) in
+    omega (arith, met-turn u (t .before .loop .inv .1) (row t) (w .wide3 .result) (next t) (w .wide3 .ensures) .2, k .shared-slice-known .given (row t + 1))
 
 queue-row-requires : tie.Need-queue-row-requires Inv-loop μ-loop
 queue-row-requires c κs =
     let w = c .before .before in
     let t = w .before .before .before .before in
-    met-turn (t .before .before .before .before .before .before .before .before .pre .1) (t .before .loop .inv .1) (row t) (w .wide3 .result) (met t) (w .wide3 .ensures)
+    let p = t .before .before .before .before .before .before .before .before .pre in
+    let u = turn-of (p .0) (p .1) in
+    met-turn u (t .before .loop .inv .1) (row t) (w .wide3 .result) (next t) (w .wide3 .ensures)
 
 lower-over-requires : tie.Need-lower-over-requires Inv-loop μ-loop
 lower-over-requires c κs =
@@ -70,12 +75,14 @@ lower-over-requires c κs =
     let w = q .before .before .before in
     let t = w .before .before .before .before in
     let p = t .before .before .before .before .before .before .before .before .pre in
-    let v = t .before .loop .inv in
+    let u = turn-of (p .0) (p .1) in
+    let (K, W, P, S) = t .before .loop .inv in
     let i = w .wide3 .result in
     let e = w .wide3 .ensures in
-    let spread = met-still (p .1) (v .1) (row t) i (met t) e (q .queue-row .ensures) (v .2) in (
-      met-beside (p .1) (v .1) (row t) i (met t) e (room-on (p .0) (v .0 .up-kept) (v .0 .down-kept)),
-      met-spread (p .1) (v .1) (row t) i (met t) e spread,
+    let (el, ep) = q .queue-row .ensures in
+    let s = met-moves u W (row t) i (next t) e (omega arith) el ep in (
+      met-beside u W (row t) i (next t) e (lists-kept (p .0) (K .kept)),
+      met-spread u W (row t) i (next t) e (spread-still u (met-first u W (row t) (next t) .0) s S),
     )
 
 loop-less : tie.Need-loop-less Inv-loop μ-loop
@@ -83,7 +90,10 @@ loop-less c =
     let q = c .before .before .before .before .before .before .before .before in
     let w = q .before .before .before in
     let t = w .before .before .before .before in
-    met-less (t .before .before .before .before .before .before .before .before .pre .1) (t .before .loop .inv .1) (row t) (w .wide3 .result) (met t) (w .wide3 .ensures) (q .queue-row .ensures)
+    let p = t .before .before .before .before .before .before .before .before .pre in
+    let u = turn-of (p .0) (p .1) in
+    let (el, ep) = q .queue-row .ensures in
+    met-less u (t .before .loop .inv .1) (row t) (w .wide3 .result) (next t) (w .wide3 .ensures) (omega arith) el ep
 
 loop-again : tie.Need-loop-again Inv-loop μ-loop
 loop-again c =
@@ -92,21 +102,26 @@ loop-again c =
     let w = q .before .before .before in
     let n = w .before .before in
     let t = n .before .before in
-    let u = t .before .before .before .before .before .before .before .before .pre .1 in
-    let v = t .before .loop .inv in
+    let p = t .before .before .before .before .before .before .before .before .pre in
+    let u = turn-of (p .0) (p .1) in
+    let (K, W, P, S) = t .before .loop .inv in
     let i = w .wide3 .result in
     let e = w .wide3 .ensures in
-    let Q = q .queue-row .ensures in (
-      met-walks u (v .1) (row t) i (met t) e Q (v .0) (o .lower-over .ensures),
-      met-waits u (v .1) (row t) i (met t) e Q (n .wide2 .ensures),
-      met-still u (v .1) (row t) i (met t) e Q (v .2),
+    let (el, ep) = q .queue-row .ensures in
+    let s = met-moves u W (row t) i (next t) e (omega arith) el ep in (
+      met-walks u W (row t) i (next t) e s K (o .lower-over .ensures),
+      met-waits u W (row t) i (next t) e (omega arith) el ep (n .wide2 .ensures),
+      met-passed u W (row t) i (next t) e s P,
+      spread-still u (met-first u W (row t) (next t) .0) s S,
     )
 
 returns : tie.Need-returns Inv-loop μ-loop
 returns c =
     let l = c .before .loop in
+    let p = c .before .before .before .before .before .before .before .before .pre in
     let e : l .k ≡ 0 = omega (arith, c .loop-test .left) in
-    (walking-end (c .before .before .before .before .before .before .before .before .pre .1) (l .inv .1) e (l .inv .0), rw e at (l .inv .1))
+    let (K, W, P, S) = l .inv in
+    (walking-end (turn-of (p .0) (p .1)) W e K, rw e at W, P)
 
 pub lower-row-spec : {M : Type 1} → statement M
 lower-row-spec =
@@ -114,8 +129,8 @@ lower-row-spec =
     (tie.spec
     Inv-loop
     μ-loop
-    mul-wide
-    element-copy-out-wide
+    (λ c. search needs)
+    (λ c. search needs)
     (λ c κs. search needs)
     loop-holds
     (λ c. search needs)

@@ -1,11 +1,10 @@
 -- `queue_row` meets its contract: the link of its entry is read before it is written. Assumes nothing.
 use borrow.Author.Needs.{needs}
-use Rattle.customise.proofs.WaitLaws.{queue-place}
-use Rattle.customise.specs.Steps.{waits, ended}
-use lib.ListN.{getD, set}
+use Rattle.customise.proofs.Waiting.{queue-place, queued-waits, queued-ended}
 use native.Mathlib.Omega.{arith}
-use mathlib.Core.Path.{refl, ap}
+use mathlib.Core.Path.{refl}
 use Prim.Native.Nat.{_+_}
+use Rattle.rules.specs.Graph.{graph}
 use Rattle.customise.proofs.queue_row.Statement.{statement}
 use Rattle.customise.proofs.queue_row.Tie as tie
 
@@ -58,12 +57,18 @@ returns : tie.Need-returns
 returns c =
     let y = c .before in
     let t = y .before .before in
-    let a = t .before .before .before .before .before .args in
-    let l = a .links .now in
-    waits (omega (arith, t .before .wide .ensures, t .if1 .taken)) (ap (λ y. set (set l (a .z) (getD l y 0)) y (a .z + 1)) (y .wide2 .ensures)) refl
+    let a = t .before .before .before .before .before .args in (
+      queued-waits (graph (a .first .now) (a .row-heads .now)) (a .links .now) (a .z) (a .i) (y .wide2 .result)
+          (omega (arith, t .before .wide .ensures, t .if1 .taken)) (y .wide2 .ensures),
+      refl,
+    )
 
 returns-2 : tie.Need-returns-2
-returns-2 c = ended (omega (arith, c .before .wide .ensures, c .if1 .left)) refl refl
+returns-2 c =
+    let a = c .before .before .before .before .before .args in (
+      queued-ended (graph (a .first .now) (a .row-heads .now)) (a .links .now) (a .z) (a .i) (omega (arith, c .before .wide .ensures, c .if1 .left)),
+      refl,
+    )
 
 pub queue-row-spec : {M : Type 1} → statement M
 queue-row-spec =

@@ -1,18 +1,19 @@
 -- `spread_row` meets its contract: the places before k have been spread out. Assumes nothing.
 use borrow.Author.Needs.{needs}
-use Rattle.customise.proofs.OfferLaws.{Spreading, spreading-none, spreading-seat, spreading-place, spreading-more, spreading-all}
+use Rattle.customise.proofs.Spread.{Spreading, spreading-none, spreading-seat, spreading-place, spreading-more, spreading-all}
 use lib.ListN.{set}
 use native.Mathlib.Omega.{arith}
 use mathlib.Core.Path.{ap}
 use Prim.Native.Nat.{_+_, _-_}
 use Rattle.customise.proofs.spread_row.Statement.{statement}
 use Rattle.customise.proofs.spread_row.Tie as tie
+use Rattle.rules.specs.Graph.{graph}
 
 abbrev Inv-loop : tie.InvT-loop
-Inv-loop first row-heads x places₀ end k₀ places k = Spreading first row-heads x end k places₀ places
+Inv-loop first row-heads places₀ x end k₀ places k = Spreading (graph first row-heads) x end k places₀ places
 
 abbrev μ-loop : tie.MeasureT-loop
-μ-loop first row-heads x places₀ end k₀ places k = end - k
+μ-loop first row-heads places₀ x end k₀ places k = end - k
 
 loop-holds : tie.Need-loop-holds Inv-loop μ-loop
 loop-holds c = spreading-none (c .before .before .before .before .before .before .pre .1) (c .before .before .wide .ensures) (c .wide2 .ensures)
