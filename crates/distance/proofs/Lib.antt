@@ -1,5 +1,5 @@
-pub mod Offers
-pub mod Climbing
-pub mod RowParts
-pub mod Rungs
-pub mod Meetings
+pub mod Offered
+pub mod Stage
+pub mod Parent
+pub mod Climbed
+pub mod Looked

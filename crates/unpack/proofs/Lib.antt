@@ -1,8 +1,7 @@
-pub mod AskedLaws
-pub mod FillLaws
-pub mod TailLaws
-pub mod LowLaws
-pub mod TraceLaws
-pub mod DriveLaws
-pub mod LeftLaws
-pub mod Together
+pub mod Put
+pub mod ByTail
+pub mod ArcOf
+pub mod Lows
+pub mod Edge
+pub mod MiddleIn
+pub mod WayAlong

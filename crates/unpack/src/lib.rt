@@ -1,51 +1,51 @@
-// Route after its checks: the labels of both ends are followed back from where they meet, and each edge on the way is opened into its arcs.
+// Pieces opened into arcs. An edge is driven as the arc in force between its ends, if that costs as much; else as its two parts over
+// the lowest position that fits: down to it, then up from it. What is met goes straight into the lent route list.
 
-ghost use Prim.Native.Nat.{ℕ, suc, _+_, _-_, _≤_, _<_, min};
+ghost use Prim.Native.Nat.{ℕ, _≤_, _<_, min};
 ghost use mathlib.Core.Path.{_≡_};
-ghost use mathlib.Core.List.{List, _++_, reverse};
-ghost use lib.ListN.{length, getD, drop, take, replicate};
-ghost use Rattle.rules.specs.declared.Direction.the-variants.{Up, Down};
-ghost use Rattle.rules.specs.Costs.{closed};
-ghost use Rattle.rules.specs.Replies.{routeReply};
+ghost use mathlib.Core.List.{List, [], _∷_};
+ghost use lib.Dec.{T};
+ghost use lib.ListN.{length, getD, replicate};
 ghost use Rattle.rules.specs.Net.{net};
-ghost use Rattle.rules.specs.Refusals.{passes};
-ghost use Rattle.rules.specs.Calls.{routeLeft, customiseChecks, routeLeaves};
-ghost use Rattle.theory.proofs.Accepted.{Accepted};
-ghost use Rattle.theory.proofs.Rows.{Rows};
-ghost use Rattle.lists.specs.Lent.{foundIn};
-ghost use Rattle.sets.specs.Threads.{Threaded};
-ghost use Rattle.distance.specs.Labelled.{count};
-ghost use Rattle.pieces.specs.Opening.{ran, put, Lows, ByTail, Ready};
-ghost use Rattle.unpack.specs.Driving.{Given, lowTurn, cameEdges, Leads, stairs, Climbs, Traced, wayOver, routeFound};
-use distance::climb;
-use distance::meet;
-use lists::Check;
-use lists::check_question;
-use lists::find_in_row;
-use lists::position_of;
-use pieces::Opened;
-use pieces::open_down;
-use pieces::open_up;
+ghost use Rattle.rules.specs.Hierarchy.{edgeCosts, linked, held};
+ghost use Rattle.rules.specs.Route.{drives};
+ghost use Rattle.rules.specs.Graph.{graph};
+ghost use Rattle.theory.specs.Rows.{InRow, Rows, count, Lists};
+ghost use Rattle.theory.specs.Threads.{Threaded};
+ghost use Rattle.unpack.specs.Opening.{ran, put, wayAlong, lowTurn, Lows, overZ, middleIn, Falls, ByTail, lastArc, Within, arcOf, choice, Openable, Readable, Ready};
+use lists::find_edge;
+use lists::junction_at;
 use rules::Cost;
-use rules::Direction;
 use rules::Found;
 use rules::Junction;
 use rules::Position;
-use rules::Refusal;
-use rules::RouteAnswer;
 use rules::wide;
+use rules::wide16;
 
-// The label of a position that has none, and the distance where there is none.
-const NONE: u64 = 18446744073709551615;
+// What opening a piece answers: the next free place of the route list, that an arc has no place left, or that a piece fits nothing.
+pub enum Opened {
+    Next(usize),
+    Full,
+    Misfit,
+}
+
+// How a piece is opened: as an arc; as its parts over a position, the edge at one place down to it and the edge at another up from it; or not
+// at all.
+enum Choice {
+    Arc(usize),
+    Over { z: Position, down: usize, up: usize },
+    Neither,
+}
 
 // Threads the arcs by their tails, so that the arcs from one junction are found without a search.
-fn thread_tails(tails: &[u32], arc_at: &mut [u16; 4096], arc_next: &mut [u16; 16384])
+pub fn thread_tails(tails: &[u32], arc_at: &mut [u16; 4096], arc_next: &mut [u16; 16384])
     requires { ⌜ ((i : ℕ) → i < length (now tails) → getD (now tails) i 0 < 4096) × (length (now tails) ≤ 16384) × (now «arc_at» ≡ replicate 4096 0) × (length (now «arc_next») ≡ 16384) ⌝ }
     ensures { λ _. ⌜ Threaded (λ i. getD (now (tails .entry)) i 0) 4096 16384 (length (now (tails .entry))) (now («arc_at» .exit)) (now («arc_next» .exit)) ⌝ }
 {
     let mut i = 0;
     while i < tails.len() {
-        let u = wide(tails[i]);
+        let tail = Junction(tails[i]);
+        let u = wide(tail.0);
         arc_next[i] = arc_at[u];
         arc_at[u] = (i + 1) as u16;
         i += 1;
@@ -63,9 +63,9 @@ fn lesser(a: u32, b: u32) -> u32
 }
 
 // Hands what leads up to position p, or p itself, on to its parent.
-fn hand_low(first: &[u32], row_heads: &[u32], p: usize, low: &mut [u32; 4096])
-    requires { ⌜ Rows (count (now first)) (now first) (now «row_heads») × (count (now first) ≤ 4096) × (p < count (now first)) × (length (now low) ≡ 4096) ⌝ }
-    ensures { λ _. ⌜ now (low .exit) ≡ lowTurn (now (first .entry)) (now («row_heads» .entry)) p (now (low .entry)) ⌝ }
+fn hand_low(first: &[u32], row_heads: &[u32], low: &mut [u32; 4096], p: usize)
+    requires { ⌜ Rows (count (now first)) (graph (now first) (now «row_heads»)) × (count (now first) ≤ 4096) × (p < count (now first)) × (length (now low) ≡ 4096) ⌝ }
+    ensures { λ _. ⌜ now (low .exit) ≡ lowTurn (graph (now (first .entry)) (now («row_heads» .entry))) p (now (low .entry)) ⌝ }
 {
     let from = wide(first[p]);
     let to = wide(first[p + 1]);
@@ -78,174 +78,169 @@ fn hand_low(first: &[u32], row_heads: &[u32], p: usize, low: &mut [u32; 4096])
 }
 
 // For each position the lowest from which parents lead up to it: nothing lower is joined to it.
-fn find_lows(first: &[u32], row_heads: &[u32], low: &mut [u32; 4096])
-    requires { ⌜ Rows (count (now first)) (now first) (now «row_heads») × (count (now first) ≤ 4096) × (length (now low) ≡ 4096) ⌝ }
-    ensures { λ _. ⌜ Lows (now (first .entry)) (now («row_heads» .entry)) (now (low .exit)) ⌝ }
+pub fn find_lows(first: &[u32], row_heads: &[u32], low: &mut [u32; 4096])
+    requires { ⌜ Rows (count (now first)) (graph (now first) (now «row_heads»)) × (count (now first) ≤ 4096) × (length (now low) ≡ 4096) ⌝ }
+    ensures { λ _. ⌜ Lows (graph (now (first .entry)) (now («row_heads» .entry))) (now (low .exit)) ⌝ }
 {
     let n = first.len() - 1;
     let mut p = 0;
     while p < n {
-        hand_low(first, row_heads, p, low);
+        hand_low(first, row_heads, low, p);
         p += 1;
     }
 }
 
-// CLOSED from place `from` of the route list on.
-fn fill_closed(route: &mut [u32], from: usize)
-    requires { ⌜ from ≤ length (now route) ⌝ }
-    ensures { λ _. ⌜ now (route .exit) ≡ take from (now (route .entry)) ++ replicate (length (now (route .exit)) - from) closed ⌝ }
+// Writes an arc at the next free place.
+fn write_arc(arc: usize, at: usize, route: &mut [u32]) -> Opened
+    requires { ⌜ arc < 16384 ⌝ }
+    ensures { λ r. ⌜ ran r (now (route .exit)) ≡ put (drives arc ∷ []) at (now (route .entry)) ⌝ }
 {
-    let mut i = from;
-    while i < route.len() {
-        route[i] = Cost::CLOSED.0;
-        i += 1;
+    if route.len() <= at {
+        return Opened::Full;
     }
+    route[at] = arc as u32;
+    Opened::Next(at + 1)
 }
 
-// The place of the edge between two positions, the lower first, or nothing.
-fn find_edge(first: &[u32], row_heads: &[u32], x: Position, y: Position) -> Found
-    requires { ⌜ Rows (count (now first)) (now first) (now «row_heads») × (x .0 < count (now first)) ⌝ }
-    ensures { λ r. ⌜ r ≡ foundIn (now («row_heads» .entry)) (getD (now (first .entry)) (x .0) 0) (getD (now (first .entry)) (x .0 + 1) 0) (y .0) ⌝ }
-{
-    let row = x.0 as usize;
-    let from = wide(first[row]);
-    let to = wide(first[row + 1]);
-    find_in_row(row_heads, from, to, y)
-}
-
-// The edges from s up to m, by where each label came from: their places stand in way from the place that is told on, in driving order.
-fn trace(
-    first: &[u32],
-    row_heads: &[u32],
-    came: &[u16; 4096],
-    s: Position,
-    m: Position,
-    way: &mut [u32; 4096],
-) -> usize
-    requires { ⌜ Rows (count (now first)) (now first) (now «row_heads») × (count (now first) ≤ 4096) × (m .0 < count (now first)) × Leads (now first) (now «row_heads») (now came) (s .0) (m .0) × (length (now way) ≡ 4096) ⌝ }
-    ensures { λ r. ⌜ Traced (now (first .entry)) (now («row_heads» .entry)) (now (came .entry)) (s .0) (m .0) r (now (way .exit)) ⌝ }
-{
-    let mut p = m.0;
-    let mut at = 4096;
-    while p != s.0 {
-        let q = came[wide(p)] as u32;
-        let Found::At(k) = find_edge(first, row_heads, Position(q), Position(p)) else {
-            return at;
-        };
-        at -= 1;
-        way[at] = k as u32;
-        p = q;
-    }
-    at
-}
-
-// Drives the edges whose places stand in way from place i on, upward from s.
-fn drive_up(
-    order: &[u32],
+// The last arc listed from u to v: a later listing replaces an earlier one.
+fn last_arc(
     heads: &[u32],
-    costs: &[u32],
     arc_at: &[u16; 4096],
     arc_next: &[u16; 16384],
-    first: &[u32],
-    row_heads: &[u32],
-    up: &[u32],
-    down: &[u32],
-    low: &[u32; 4096],
-    way: &[u32; 4096],
-    i: usize,
-    s: Position,
-    route: &mut [u32],
-) -> Opened
-    requires { ⌜ Ready (now order) (now heads) (now costs) (now «arc_at») (now «arc_next») (now first) (now «row_heads») (now up) (now down) (now low) × (length (now way) ≡ 4096) × (i ≤ 4096) × Climbs (now first) (now «row_heads») (s .0) (drop i (now way)) ⌝ }
-    ensures { λ r. ⌜ ((tails : List ℕ) → ByTail tails (now (heads .entry)) (now («arc_at» .entry)) (now («arc_next» .entry)) → ran r (now (route .exit)) ≡ put (wayOver (net tails (now (heads .entry)) (now (costs .entry)) (now (order .entry))) (now (first .entry)) (now («row_heads» .entry)) (now (up .entry)) (now (down .entry)) (stairs (now («row_heads» .entry)) (s .0) (drop i (now (way .entry))))) 0 (now (route .entry))) ⌝ }
+    u: Junction,
+    v: Junction,
+) -> Found
+    requires { ⌜ Falls (length (now heads)) (now «arc_at») (now «arc_next») × (u .0 < 4096) × (length (now heads) ≤ 16384) ⌝ }
+    ensures within { λ r. ⌜ Within (length (now (heads .entry))) r ⌝ }
+    ensures last { λ r. ⌜ ((tails : List ℕ) → ByTail tails (now (heads .entry)) (now («arc_at» .entry)) (now («arc_next» .entry)) → r ≡ lastArc tails (now (heads .entry)) (u .0) (v .0)) ⌝ }
 {
-    let mut x = s.0;
-    let mut free = 0;
-    let mut j = i;
-    while j < 4096 {
-        let k = wide(way[j]);
-        free = match open_up(
-            order,
-            heads,
-            costs,
-            arc_at,
-            arc_next,
-            first,
-            row_heads,
-            up,
-            down,
-            low,
-            Position(x),
-            k,
-            free,
-            route,
-        ) {
-            Opened::Next(next) => next,
-            Opened::Full => return Opened::Full,
-            Opened::Misfit => return Opened::Misfit,
-        };
-        x = row_heads[k];
-        j += 1;
+    let want = v.0;
+    let start = u.0 as usize;
+    let mut k = wide16(arc_at[start]);
+    while 0 < k {
+        let i = k - 1;
+        if heads[i] == want {
+            return Found::At(i);
+        }
+        k = wide16(arc_next[i]);
     }
-    Opened::Next(free)
+    Found::Nothing
 }
 
-// Drives the edges from m down to t, by where each label came from.
-fn drive_down(
-    order: &[u32],
+// The arc in force between the junctions at a and b, if its cost is w.
+fn fitting_arc(
     heads: &[u32],
     costs: &[u32],
+    order: &[u32],
     arc_at: &[u16; 4096],
     arc_next: &[u16; 16384],
+    a: Position,
+    b: Position,
+    w: Cost,
+) -> Found
+    requires { ⌜ Readable (now heads) (now costs) (now order) (now «arc_at») (now «arc_next») (a .0) (b .0) ⌝ }
+    ensures within { λ r. ⌜ Within (length (now (heads .entry))) r ⌝ }
+    ensures fits { λ r. ⌜ ((tails : List ℕ) → ByTail tails (now (heads .entry)) (now («arc_at» .entry)) (now («arc_next» .entry)) → r ≡ arcOf (net tails (now (heads .entry)) (now (costs .entry)) (now (order .entry))) (a .0) (b .0) (w .0)) ⌝ }
+{
+    let u = junction_at(order, a);
+    let v = junction_at(order, b);
+    let Found::At(i) = last_arc(heads, arc_at, arc_next, u, v) else {
+        return Found::Nothing;
+    };
+    if w.0 == Cost::CLOSED.0 {
+        return Found::Nothing;
+    }
+    if costs[i] != w.0 {
+        return Found::Nothing;
+    }
+    Found::At(i)
+}
+
+// The places of the edges from z to a and to b, if z is joined to both and what they cost, down to z and up from it, is finite and adds
+// up to w.
+fn over(
     first: &[u32],
     row_heads: &[u32],
     up: &[u32],
     down: &[u32],
+    a: Position,
+    b: Position,
+    w: Cost,
+    z: Position,
+) -> Choice
+    requires { ⌜ Lists (graph (now first) (now «row_heads»)) (edgeCosts (now up) (now down)) × (z .0 < count (now first)) × (z .0 < a .0) × (z .0 < b .0) × (w .0 ≡ held (graph (now first) (now «row_heads»)) (edgeCosts (now up) (now down)) (a .0) (b .0)) ⌝ }
+    ensures { λ r. ⌜ r ≡ overZ (graph (now (first .entry)) (now («row_heads» .entry))) (edgeCosts (now (up .entry)) (now (down .entry))) (a .0) (b .0) (z .0) ⌝ }
+{
+    let Found::At(i) = find_edge(first, row_heads, z, a) else {
+        return Choice::Neither;
+    };
+    let Found::At(j) = find_edge(first, row_heads, z, b) else {
+        return Choice::Neither;
+    };
+    if Cost::add_up(Cost(down[i]), Cost(up[j]), w) {
+        return Choice::Over { z, down: i, up: j };
+    }
+    Choice::Neither
+}
+
+// The lowest position from `from` up to `to` over which a piece from a to b of cost w goes.
+fn find_middle(
+    first: &[u32],
+    row_heads: &[u32],
+    up: &[u32],
+    down: &[u32],
+    from: Position,
+    to: Position,
+    a: Position,
+    b: Position,
+    w: Cost,
+) -> Choice
+    requires { ⌜ Lists (graph (now first) (now «row_heads»)) (edgeCosts (now up) (now down)) × (from .0 ≤ to .0) × (to .0 ≤ a .0) × (to .0 ≤ b .0) × (to .0 ≤ count (now first)) × (w .0 ≡ held (graph (now first) (now «row_heads»)) (edgeCosts (now up) (now down)) (a .0) (b .0)) ⌝ }
+    ensures { λ r. ⌜ r ≡ middleIn (graph (now (first .entry)) (now («row_heads» .entry))) (edgeCosts (now (up .entry)) (now (down .entry))) (a .0) (b .0) (from .0) (to .0) ⌝ }
+{
+    let end = to.0;
+    let mut z = from.0;
+    while z < end {
+        let found = over(first, row_heads, up, down, a, b, w, Position(z));
+        if let Choice::Over { .. } = found {
+            return found;
+        }
+        z += 1;
+    }
+    Choice::Neither
+}
+
+// How a piece from a to b of cost w is opened: the search for a position over which it goes starts at the lowest that leads up to its low
+// end, since nothing lower is joined to that.
+fn choose(
+    heads: &[u32],
+    costs: &[u32],
+    order: &[u32],
+    first: &[u32],
+    row_heads: &[u32],
+    up: &[u32],
+    down: &[u32],
+    arc_at: &[u16; 4096],
+    arc_next: &[u16; 16384],
     low: &[u32; 4096],
-    came: &[u16; 4096],
-    m: Position,
-    t: Position,
-    free: usize,
-    route: &mut [u32],
-) -> Opened
-    requires { ⌜ Ready (now order) (now heads) (now costs) (now «arc_at») (now «arc_next») (now first) (now «row_heads») (now up) (now down) (now low) × (m .0 < count (now first)) × Leads (now first) (now «row_heads») (now came) (t .0) (m .0) ⌝ }
-    ensures { λ r. ⌜ ((tails : List ℕ) → ByTail tails (now (heads .entry)) (now («arc_at» .entry)) (now («arc_next» .entry)) → ran r (now (route .exit)) ≡ put (wayOver (net tails (now (heads .entry)) (now (costs .entry)) (now (order .entry))) (now (first .entry)) (now («row_heads» .entry)) (now (up .entry)) (now (down .entry)) (reverse (cameEdges (now (came .entry)) Down (t .0) (suc (m .0)) (m .0)))) free (now (route .entry))) ⌝ }
+    a: Position,
+    b: Position,
+    w: Cost,
+) -> Choice
+    requires { ⌜ Ready (now heads) (now costs) (now order) (graph (now first) (now «row_heads»)) (edgeCosts (now up) (now down)) (now «arc_at») (now «arc_next») (now low) × T (linked (graph (now first) (now «row_heads»)) (a .0) (b .0)) × (w .0 ≡ held (graph (now first) (now «row_heads»)) (edgeCosts (now up) (now down)) (a .0) (b .0)) ⌝ }
+    ensures safe { λ r. ⌜ Openable (length (now (heads .entry))) (graph (now (first .entry)) (now («row_heads» .entry))) (min (a .0) (b .0)) r ⌝ }
+    ensures chosen { λ r. ⌜ ((tails : List ℕ) → ByTail tails (now (heads .entry)) (now («arc_at» .entry)) (now («arc_next» .entry)) → r ≡ choice (net tails (now (heads .entry)) (now (costs .entry)) (now (order .entry))) (graph (now (first .entry)) (now («row_heads» .entry))) (edgeCosts (now (up .entry)) (now (down .entry))) (a .0) (b .0)) ⌝ }
 {
-    let mut p = m.0;
-    let mut at = free;
-    while p != t.0 {
-        let q = came[wide(p)] as u32;
-        let Found::At(k) = find_edge(first, row_heads, Position(q), Position(p)) else {
-            return Opened::Misfit;
-        };
-        at = match open_down(
-            order,
-            heads,
-            costs,
-            arc_at,
-            arc_next,
-            first,
-            row_heads,
-            up,
-            down,
-            low,
-            Position(q),
-            k,
-            at,
-            route,
-        ) {
-            Opened::Next(next) => next,
-            Opened::Full => return Opened::Full,
-            Opened::Misfit => return Opened::Misfit,
-        };
-        p = q;
+    if let Found::At(arc) = fitting_arc(heads, costs, order, arc_at, arc_next, a, b, w) {
+        return Choice::Arc(arc);
     }
-    Opened::Next(at)
+    let to = Position(lesser(a.0, b.0));
+    let from = Position(low[wide(to.0)]);
+    find_middle(first, row_heads, up, down, from, to, a, b, w)
 }
 
-// Drives the way from s up to m and from m down to t: its arcs are written from the start of the route list on.
-fn drive_way(
-    tails: &[u32],
+// Opens the piece from x up to the position that stands at place k of row x.
+pub fn open_up(
     heads: &[u32],
     costs: &[u32],
     order: &[u32],
@@ -253,111 +248,97 @@ fn drive_way(
     row_heads: &[u32],
     up: &[u32],
     down: &[u32],
-    came_up: &[u16; 4096],
-    came_down: &[u16; 4096],
-    s: Position,
-    m: Position,
-    t: Position,
+    arc_at: &[u16; 4096],
+    arc_next: &[u16; 16384],
+    low: &[u32; 4096],
+    x: Position,
+    k: usize,
+    at: usize,
     route: &mut [u32],
 ) -> Opened
-    requires { ⌜ Given (now tails) (now heads) (now costs) (now order) (now first) (now «row_heads») (now up) (now down) × (m .0 < count (now first)) × Leads (now first) (now «row_heads») (now «came_up») (s .0) (m .0) × Leads (now first) (now «row_heads») (now «came_down») (t .0) (m .0) ⌝ }
-    ensures { λ r. ⌜ ran r (now (route .exit)) ≡ put (wayOver (net (now (tails .entry)) (now (heads .entry)) (now (costs .entry)) (now (order .entry))) (now (first .entry)) (now («row_heads» .entry)) (now (up .entry)) (now (down .entry)) (cameEdges (now («came_up» .entry)) Up (s .0) (suc (m .0)) (m .0) ++ reverse (cameEdges (now («came_down» .entry)) Down (t .0) (suc (m .0)) (m .0)))) 0 (now (route .entry)) ⌝ }
+    requires { ⌜ Ready (now heads) (now costs) (now order) (graph (now first) (now «row_heads»)) (edgeCosts (now up) (now down)) (now «arc_at») (now «arc_next») (now low) × (x .0 < count (now first)) × InRow (graph (now first) (now «row_heads»)) (x .0) k ⌝ }
+    ensures { λ r. ⌜ ((tails : List ℕ) → ByTail tails (now (heads .entry)) (now («arc_at» .entry)) (now («arc_next» .entry)) → ran r (now (route .exit)) ≡ put (wayAlong (net tails (now (heads .entry)) (now (costs .entry)) (now (order .entry))) (graph (now (first .entry)) (now («row_heads» .entry))) (edgeCosts (now (up .entry)) (now (down .entry))) (x .0) (getD (now («row_heads» .entry)) k 0)) at (now (route .entry))) ⌝ }
 {
-    let mut arc_at = [0u16; 4096];
-    let mut arc_next = [0u16; 16384];
-    thread_tails(tails, &mut arc_at, &mut arc_next);
-    let mut low = [4096u32; 4096];
-    find_lows(first, row_heads, &mut low);
-    let mut way = [0u32; 4096];
-    let i = trace(first, row_heads, came_up, s, m, &mut way);
-    match drive_up(
-        order,
+    let y = Position(row_heads[k]);
+    match choose(
         heads,
         costs,
-        &arc_at,
-        &arc_next,
+        order,
         first,
         row_heads,
         up,
         down,
-        &low,
-        &way,
-        i,
-        s,
-        route,
+        arc_at,
+        arc_next,
+        low,
+        x,
+        y,
+        Cost(up[k]),
     ) {
-        Opened::Next(free) => drive_down(
-            order,
-            heads,
-            costs,
-            &arc_at,
-            &arc_next,
-            first,
-            row_heads,
-            up,
-            down,
-            &low,
-            came_down,
-            m,
-            t,
-            free,
-            route,
-        ),
-        Opened::Full => Opened::Full,
-        Opened::Misfit => Opened::Misfit,
+        Choice::Arc(arc) => write_arc(arc, at, route),
+        Choice::Over { z, down: i, up: j } => {
+            let opened = open_down(
+                heads,
+                costs,
+                order,
+                first,
+                row_heads,
+                up,
+                down,
+                arc_at,
+                arc_next,
+                low,
+                z,
+                i,
+                at,
+                route,
+            );
+            let Opened::Next(free) = opened else {
+                return opened;
+            };
+            open_up(
+                heads,
+                costs,
+                order,
+                first,
+                row_heads,
+                up,
+                down,
+                arc_at,
+                arc_next,
+                low,
+                z,
+                j,
+                free,
+                route,
+            )
+        }
+        Choice::Neither => Opened::Misfit,
     }
 }
 
-// The route from s to t, written into the route list, and what route answers; 12 and 13 fill the list again.
-fn drive<'a>(
-    tails: &[u32],
+// Opens the piece down to x from the position that stands at place k of row x.
+pub fn open_down(
     heads: &[u32],
     costs: &[u32],
     order: &[u32],
-    rank: &[u32],
     first: &[u32],
     row_heads: &[u32],
-    up: &'a [u32],
-    down: &'a [u32],
-    s: Position,
-    t: Position,
+    up: &[u32],
+    down: &[u32],
+    arc_at: &[u16; 4096],
+    arc_next: &[u16; 16384],
+    low: &[u32; 4096],
+    x: Position,
+    k: usize,
+    at: usize,
     route: &mut [u32],
-) -> RouteAnswer
-    requires { ⌜ Accepted (net (now tails) (now heads) (now costs) (now order)) (now rank) (now first) (now «row_heads») (now up) (now down) × (s .0 < length (now order)) × (t .0 < length (now order)) ⌝ }
-    ensures { λ r. ⌜ routeLeft (now (route .exit)) (routeReply r) ≡ routeFound (net (now (tails .entry)) (now (heads .entry)) (now (costs .entry)) (now (order .entry))) (now (first .entry)) (now («row_heads» .entry)) (now (up .entry)) (now (down .entry)) (s .0) (t .0) (length (now (route .entry))) ⌝ }
+) -> Opened
+    requires { ⌜ Ready (now heads) (now costs) (now order) (graph (now first) (now «row_heads»)) (edgeCosts (now up) (now down)) (now «arc_at») (now «arc_next») (now low) × (x .0 < count (now first)) × InRow (graph (now first) (now «row_heads»)) (x .0) k ⌝ }
+    ensures { λ r. ⌜ ((tails : List ℕ) → ByTail tails (now (heads .entry)) (now («arc_at» .entry)) (now («arc_next» .entry)) → ran r (now (route .exit)) ≡ put (wayAlong (net tails (now (heads .entry)) (now (costs .entry)) (now (order .entry))) (graph (now (first .entry)) (now («row_heads» .entry))) (edgeCosts (now (up .entry)) (now (down .entry))) (getD (now («row_heads» .entry)) k 0) (x .0)) at (now (route .entry))) ⌝ }
 {
-    let mut from_start = [NONE; 4096];
-    let mut from_target = [NONE; 4096];
-    let mut came_up = [0u16; 4096];
-    let mut came_down = [0u16; 4096];
-    climb(
-        first,
-        row_heads,
-        up,
-        down,
-        Direction::Up,
-        s,
-        &mut from_start,
-        &mut came_up,
-    );
-    climb(
-        first,
-        row_heads,
-        up,
-        down,
-        Direction::Down,
-        t,
-        &mut from_target,
-        &mut came_down,
-    );
-    let met = meet(first, row_heads, t, &from_start, &from_target);
-    if met.sum == NONE {
-        fill_closed(route, 0);
-        return RouteAnswer::NoWalk;
-    }
-    let m = Position(met.at as u32);
-    match drive_way(
-        tails,
+    let y = Position(row_heads[k]);
+    match choose(
         heads,
         costs,
         order,
@@ -365,66 +346,51 @@ fn drive<'a>(
         row_heads,
         up,
         down,
-        &came_up,
-        &came_down,
-        s,
-        m,
-        t,
-        route,
+        arc_at,
+        arc_next,
+        low,
+        y,
+        x,
+        Cost(down[k]),
     ) {
-        Opened::Next(arcs) => {
-            fill_closed(route, arcs);
-            RouteAnswer::Drive {
-                distance: met.sum,
-                arcs,
-            }
+        Choice::Arc(arc) => write_arc(arc, at, route),
+        Choice::Over { z, down: i, up: j } => {
+            let opened = open_down(
+                heads,
+                costs,
+                order,
+                first,
+                row_heads,
+                up,
+                down,
+                arc_at,
+                arc_next,
+                low,
+                z,
+                i,
+                at,
+                route,
+            );
+            let Opened::Next(free) = opened else {
+                return opened;
+            };
+            open_up(
+                heads,
+                costs,
+                order,
+                first,
+                row_heads,
+                up,
+                down,
+                arc_at,
+                arc_next,
+                low,
+                z,
+                j,
+                free,
+                route,
+            )
         }
-        Opened::Full => {
-            fill_closed(route, 0);
-            RouteAnswer::Refused(Refusal::RouteRoom)
-        }
-        Opened::Misfit => {
-            fill_closed(route, 0);
-            RouteAnswer::Refused(Refusal::PieceFitsNothing)
-        }
+        Choice::Neither => Opened::Misfit,
     }
-}
-
-// Route over lists that customise accepts: 11, and then the drive.
-pub fn route_between<'a>(
-    tails: &[u32],
-    heads: &[u32],
-    costs: &[u32],
-    order: &[u32],
-    rank: &[u32],
-    first: &[u32],
-    row_heads: &[u32],
-    up: &'a [u32],
-    down: &'a [u32],
-    from: Junction,
-    to: Junction,
-    route: &mut [u32],
-) -> RouteAnswer
-    requires { ⌜ customiseChecks (net (now tails) (now heads) (now costs) (now order)) (now rank) (now first) (now «row_heads») (now up) (now down) ≡ passes ⌝ }
-    ensures { λ r. ⌜ routeLeft (now (route .exit)) (routeReply r) ≡ routeLeaves (net (now (tails .entry)) (now (heads .entry)) (now (costs .entry)) (now (order .entry))) (now (rank .entry)) (now (first .entry)) (now («row_heads» .entry)) (now (up .entry)) (now (down .entry)) (from .0) (to .0) (now (route .entry)) ⌝ }
-{
-    if let Check::Fails(refusal) = check_question(order.len(), from, to) {
-        return RouteAnswer::Refused(refusal);
-    }
-    let s = position_of(rank, from);
-    let t = position_of(rank, to);
-    drive(
-        tails,
-        heads,
-        costs,
-        order,
-        rank,
-        first,
-        row_heads,
-        up,
-        down,
-        s,
-        t,
-        route,
-    )
 }

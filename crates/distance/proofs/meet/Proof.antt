@@ -1,57 +1,54 @@
--- `meet` meets its contract: p has been looked at, and what has a label above p is on its chain of parents. Assumes nothing.
-use borrow.Author.Needs.{needs}
-use Prim.Native.Nat.{_-_, _<_}
+-- `meet` meets its contract: what has a label from p on is on the chain of parents of p. Assumes nothing.
+use Prim.Native.Nat.{_-_}
 use native.Mathlib.Omega.{arith}
-use Rattle.distance.specs.Labelled.{count}
-use Rattle.distance.proofs.RowParts.{parent-higher}
-use Rattle.distance.proofs.Meetings.{Looked, looked-start, looked-next, looked-end}
+use Rattle.rules.specs.Graph.{graph}
+use Rattle.theory.specs.Rows.{count}
+use Rattle.distance.proofs.Looked.{Looked, looked-start, looked-next, looked-end}
+use Rattle.distance.proofs.Parent.{RowEnds, in-lists, parent, parent-below}
 use Rattle.distance.proofs.meet.Statement.{statement}
 use Rattle.distance.proofs.meet.Tie as tie
 
 abbrev Inv-loop : tie.InvT-loop
-Inv-loop first row-heads a b p₀ best₀ from₀ to₀ p best from to = Looked first row-heads p from to a b (best .sum) (best .at)
+Inv-loop first row-heads a b p₀ best₀ p best = Looked (graph first row-heads) a b (p .0) (best .sum) (best .at .0)
 
 abbrev μ-loop : tie.MeasureT-loop
-μ-loop first row-heads a b p₀ best₀ from₀ to₀ p best from to = count first - p
+μ-loop first row-heads a b p₀ best₀ p best = count first - p .0
+
+-- the ends of the row of p
+ends : (c : tie.After-row-end Inv-loop μ-loop) → (let l = c .before .before .before in let a = l .before .before .before .args in RowEnds (graph (a .first .now) (a .row-heads .now)) (l .loop .p .0) (c .before .row-start .result) (c .row-end .result))
+ends c = record { below = c .before .before .before .loop .inv .below; from-is = c .before .row-start .ensures; to-is = c .row-end .ensures }
 
 loop-holds : tie.Need-loop-holds Inv-loop μ-loop
-loop-holds c =
-    let w = c .before .before .before .before .before in
-    looked-start (rw (← w .wide .ensures) at (w .before .before .before .pre)) (c .before .before .wide2 .ensures) (c .wide3 .ensures) (c .before .before .before .before .look .ensures)
+loop-holds c = looked-start (c .before .before .pre) _
 
--- the parent is a higher position
-parent : (c : tie.After-wide4 Inv-loop μ-loop) → (c .before .before .before .loop .p < c .wide4 .result) × (c .wide4 .result < count (c .before .before .before .before .before .before .before .before .before .before .before .before .args .first .now))
-parent c =
-    parent-higher (c .before .before .before .before .before .before .before .before .before .before .before .before .pre .rows) (c .before .before .before .loop .inv .ends) (c .before .before .loop-test .taken) (c .wide4 .result) (c .wide4 .ensures)
+look-requires : tie.Need-look-requires Inv-loop μ-loop
+look-requires c κs = omega (arith, c .loop .inv .below, c .before .before .before .pre .few)
 
-look-requires-2 : tie.Need-look-requires-2 Inv-loop μ-loop
-look-requires-2 c κs = omega (arith, parent c, c .before .before .before .before .before .before .before .before .before .before .before .before .pre .few)
+row-start-requires : tie.Need-row-start-requires Inv-loop μ-loop
+row-start-requires c κs = omega (arith, c .before .loop .inv .below, c .before .before .before .before .pre .rows .long)
 
-mul-wide-4 : tie.Need-mul-wide-4 Inv-loop μ-loop
-mul-wide-4 c = omega (arith, parent (c .before), c .before .before .before .before .before .before .before .before .before .before .before .before .before .pre .few)
+row-end-requires : tie.Need-row-end-requires Inv-loop μ-loop
+row-end-requires c κs = omega (arith, c .before .before .loop .inv .below, c .before .before .before .before .before .pre .rows .long)
 
-shared-slice-read-wide-4 : tie.Need-shared-slice-read-wide-4 Inv-loop μ-loop
-shared-slice-read-wide-4 c = omega (arith, parent (c .before .before), c .before .before .before .before .before .loop .inv .ends)
+returns : tie.Need-returns Inv-loop μ-loop
+returns c =
+    looked-end (c .before .before .before .before .before .before .before .pre .rows) (c .before .before .before .before .loop .inv) (c .before .before .before .look .ensures) (ends (c .before)) (c .if1 .taken)
 
-add-wide-2 : tie.Need-add-wide-2 Inv-loop μ-loop
-add-wide-2 c = omega (arith, parent (c .before .before .before), c .before .before .before .before .before .before .before .before .before .before .before .before .before .before .before .pre .few)
+mul-t9 : tie.Need-mul-t9 Inv-loop μ-loop
+mul-t9 c = omega (arith, in-lists (c .before .before .before .before .before .before .before .pre .rows) (ends (c .before)), c .if1 .left)
 
-mul-wide-5 : tie.Need-mul-wide-5 Inv-loop μ-loop
-mul-wide-5 c = omega (arith, parent (c .before .before .before), c .before .before .before .before .before .before .before .before .before .before .before .before .before .before .before .pre .few)
-
-shared-slice-read-wide-5 : tie.Need-shared-slice-read-wide-5 Inv-loop μ-loop
-shared-slice-read-wide-5 c = omega (arith, parent (c .before .before .before .before), c .before .before .before .before .before .before .before .loop .inv .ends)
+shared-slice-read-t12 : tie.Need-shared-slice-read-t12 Inv-loop μ-loop
+shared-slice-read-t12 c =
+    omega (arith, in-lists (c .before .before .before .before .before .before .before .before .pre .rows) (ends (c .before .before)), c .before .if1 .left)
 
 loop-less : tie.Need-loop-less Inv-loop μ-loop
-loop-less c = omega (arith, parent (c .before .before .before .before .before))
+loop-less c =
+    let R = c .before .before .before .before .before .before .before .before .pre .rows in
+    omega (arith, parent R (ends (c .before .before)) (c .before .if1 .left) .above, parent-below R (ends (c .before .before)) (c .before .if1 .left))
 
 loop-again : tie.Need-loop-again Inv-loop μ-loop
 loop-again c =
-    let l = c .before .before .before .before .before .before .before .before in
-    looked-next (l .before .before .before .before .before .before .before .before .before .pre) (l .loop .inv) (c .before .before .before .before .before .before .before .loop-test .taken) (c .before .before .before .before .before .wide4 .ensures) (c .before .before .wide5 .ensures) (c .wide6 .ensures) (c .before .before .before .before .look2 .ensures)
-
-returns : tie.Need-returns Inv-loop μ-loop
-returns c = looked-end (c .before .before .before .before .before .before .before .before .before .before .pre) (c .before .loop .inv) (c .loop-test .left)
+    looked-next (c .before .before .before .before .before .before .before .before .pre .rows) (c .before .before .before .before .before .loop .inv) (c .before .before .before .before .look .ensures) (ends (c .before .before)) (c .before .if1 .left)
 
 pub meet-spec : {M : Type 1} → statement M
 meet-spec =
@@ -59,27 +56,12 @@ meet-spec =
     (tie.spec
     Inv-loop
     μ-loop
-    (λ c κs. search needs)
-    (λ c κs. search needs)
-    (λ c. search needs)
-    (λ c. search needs)
-    (λ c κs. search needs)
-    (λ c. search needs)
-    (λ c. search needs)
-    (λ c. search needs)
-    (λ c κs. search needs)
     loop-holds
-    (λ c. search needs)
-    (λ c. search needs)
-    (λ c κs. search needs)
-    look-requires-2
-    mul-wide-4
-    shared-slice-read-wide-4
-    (λ c κs. search needs)
-    add-wide-2
-    mul-wide-5
-    shared-slice-read-wide-5
-    (λ c κs. search needs)
+    look-requires
+    row-start-requires
+    row-end-requires
+    returns
+    mul-t9
+    shared-slice-read-t12
     loop-less
-    loop-again
-    returns)
+    loop-again)

@@ -2,12 +2,12 @@
 use borrow.Author.Needs.{needs}
 use Prim.Native.Nat.{_<_}
 use native.Mathlib.Omega.{arith}
-use lib.ListN.{length}
-use Rattle.unpack.proofs.LowLaws.{row-ends, entry-below, hand-alone, hand-parent}
+use mathlib.Core.Path.{ap}
+use lib.ListN.{length, getD}
+use Rattle.theory.proofs.Rows.{row-ends, parent-in}
+use Rattle.unpack.proofs.Lows.{hand-alone, hand-parent}
 use Rattle.unpack.proofs.hand_low.Statement.{statement}
 use Rattle.unpack.proofs.hand_low.Tie as tie
-use Rattle.unpack.proofs.hand_low.Reads as reads
-use Rattle.unpack.proofs.hand_low.Lts as lts
 
 -- the row has an entry, which can be read
 entry : (c : tie.Then1) → c .before .before .before .before .before .wide .result < length (c .before .before .before .before .before .before .before .before .before .args .row-heads .now)
@@ -20,7 +20,8 @@ parent : (c : tie.After-wide3) → c .wide3 .result < 4096
 parent c =
     let t = c .before .before in
     let s = t .before .before .before .before .before .before .before .before .before in
-    omega (arith, entry-below (s .pre .0) (s .args .p) _ (s .pre .2) (t .before .before .before .before .before .wide .ensures) (t .before .before .before .wide2 .ensures) (t .if1 .taken), s .pre .1, c .wide3 .ensures)
+    let from = t .before .before .before .before .before .wide in
+    omega (arith, parent-in (s .pre .0) (s .args .p) (s .pre .2) (omega (arith, from .ensures, t .before .before .before .wide2 .ensures, t .if1 .taken)), ap (λ k. getD (s .args .row-heads .now) k 0) (from .ensures), s .pre .1, c .wide3 .ensures)
 
 mul-wide-3 : tie.Need-mul-wide-3
 mul-wide-3 c = omega (arith, entry c)
@@ -43,10 +44,10 @@ element-write-low-2 c = parent (c .before .before)
 returns : tie.Need-returns
 returns c =
     let t = c .before .before .before .before in
-    hand-parent _ _ _ _ _ _ _ _ _ (t .before .before .before .before .before .wide .ensures) (t .before .before .before .wide2 .ensures) (t .if1 .taken) (t .before .lesser .ensures) (c .before .before .wide3 .ensures) (c .lesser2 .ensures)
+    hand-parent _ _ _ _ _ _ (t .before .before .before .before .before .wide .ensures) (t .before .before .before .wide2 .ensures) (t .before .lesser .ensures) _ _ (t .if1 .taken) (c .before .before .wide3 .ensures) (c .lesser2 .ensures)
 
 returns-2 : tie.Need-returns-2
-returns-2 c = hand-alone _ _ _ _ _ _ _ (c .before .before .before .before .before .wide .ensures) (c .before .before .before .wide2 .ensures) (c .if1 .left) (c .before .lesser .ensures)
+returns-2 c = hand-alone _ _ _ _ _ _ (c .before .before .before .before .before .wide .ensures) (c .before .before .before .wide2 .ensures) (c .before .lesser .ensures) (c .if1 .left)
 
 pub hand-low-spec : {M : Type 1} → statement M
 hand-low-spec =

@@ -1,4 +1,0 @@
-pub mod PutLaws
-pub mod ArcSearch
-pub mod MiddleLaws
-pub mod OpenLaws
