@@ -21,17 +21,17 @@ pub record ArcsShort (route : List ℕ) (arcs : ℕ) : Type 0 where
   pub there : arcs ≤ length route
   pub low : (i : ℕ) → i < arcs → getD route i 0 < 1024
 
-abbrev pub ReplyShort : RouteAnswer → List ℕ → Type 0
+abbrev pub ReplyShort : (answer : RouteAnswer) (route : List ℕ) → Type 0
 ReplyShort (Drive d k) route = ArcsShort route k
 ReplyShort NoWalk route = Unit {0}
 ReplyShort (Refused r) route = Unit {0}
 
 -- arc numbers, counted from 1
-unfoldable pub arcsWritten : List ℕ → ℕ → List ℕ
+unfoldable pub arcsWritten : (route : List ℕ) (k : ℕ) → List ℕ
 unfolding spaced
 arcsWritten route k = spaced (map suc (take k route))
 
 -- what follows from and to in a reply that found a walk
-unfoldable pub driveWritten : ℕ → ℕ → List ℕ → List ℕ
+unfoldable pub driveWritten : (d k : ℕ) (route : List ℕ) → List ℕ
 unfolding spaced
 driveWritten d k route = spaced (d ∷ k ∷ map suc (take k route)) ++ (lf ∷ [])

@@ -23,7 +23,7 @@ fn put_byte(output: &mut [u8; 98304], at: usize, byte: u8) -> usize
 }
 
 // Some bytes, one after the other.
-pub fn put_bytes(output: &mut [u8; 98304], at: usize, bytes: &[u8]) -> usize
+fn put_bytes(output: &mut [u8; 98304], at: usize, bytes: &[u8]) -> usize
     requires { ⌜ (at + length (now bytes) ≤ 98304) × (length (now output) ≡ 98304) ⌝ }
     ensures { λ r. ⌜ Wrote (now (output .entry)) at (now (bytes .entry)) (now (output .exit)) r ⌝ }
 {
@@ -36,7 +36,7 @@ pub fn put_bytes(output: &mut [u8; 98304], at: usize, bytes: &[u8]) -> usize
 }
 
 // A number in digits: what stands before its last digit first.
-pub fn put_decimal(output: &mut [u8; 98304], at: usize, x: u64) -> usize
+fn put_decimal(output: &mut [u8; 98304], at: usize, x: u64) -> usize
     requires { ⌜ (at + 20 ≤ 98304) × (length (now output) ≡ 98304) ⌝ }
     ensures { λ r. ⌜ Wrote (now (output .entry)) at (decimal x) (now (output .exit)) r ⌝ }
     ensures few { λ r. ⌜ r ≤ at + 20 ⌝ }

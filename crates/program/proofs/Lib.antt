@@ -1,2 +1,2 @@
-pub mod AnswerLaws
-pub mod WholeLaws
+pub mod ReplyLines
+pub mod AnswerLeaves

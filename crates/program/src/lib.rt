@@ -3,15 +3,20 @@
 ghost use Prim.Native.Nat.{suc, _+_, _≤_};
 ghost use mathlib.Core.Path.{_≡_};
 ghost use lib.ListN.{length};
-ghost use Rattle.rules.specs.Replies.{edges};
+ghost use Rattle.rules.specs.Replies.{edges, routeReply};
 ghost use Rattle.rules.specs.Net.{net};
 ghost use Rattle.rules.specs.Refusals.{passes};
-ghost use Rattle.rules.specs.Calls.{buildLeft, buildLeaves, customiseChecks, customiseLeaves, routeLeaves};
+ghost use Rattle.rules.specs.Calls.{buildLeft, buildLeaves, customiseChecks, customiseLeaves, routeLeft, routeLeaves};
+ghost use Rattle.rules.specs.Graph.{graph};
+ghost use Rattle.rules.specs.Hierarchy.{edgeCosts};
 ghost use Rattle.text.specs.Program.{replyLine, replyLines, noughts, answerCustomised, answerBuilt};
 ghost use Rattle.print.specs.Written.{Wrote};
 ghost use Rattle.program.specs.Answered.{answerLeft, answerLeaves, Limits};
+use drive::route_between;
 use griezmuld::build;
 use griezmuld::customise;
+use lists::Check;
+use lists::check_question;
 use print::put_edges_line;
 use print::put_refused_line;
 use print::put_reply;
@@ -21,7 +26,44 @@ use rules::BuildAnswer;
 use rules::CustomiseAnswer;
 use rules::Junction;
 use rules::Refusal;
-use unpack::route_between;
+use rules::RouteAnswer;
+
+// Route over lists that customise accepts: of its checks 11 alone is left for each question.
+fn ask_route<'a>(
+    tails: &[u32],
+    heads: &[u32],
+    costs: &[u32],
+    order: &[u32],
+    rank: &[u32],
+    first: &[u32],
+    row_heads: &[u32],
+    up: &'a [u32],
+    down: &'a [u32],
+    from: Junction,
+    to: Junction,
+    list: &mut [u32],
+) -> RouteAnswer
+    requires { ⌜ customiseChecks (net (now tails) (now heads) (now costs) (now order)) (now rank) (graph (now first) (now «row_heads»)) (edgeCosts (now up) (now down)) ≡ passes ⌝ }
+    ensures { λ r. ⌜ routeLeft (now (list .exit)) (routeReply r) ≡ routeLeaves (net (now (tails .entry)) (now (heads .entry)) (now (costs .entry)) (now (order .entry))) (now (rank .entry)) (graph (now (first .entry)) (now («row_heads» .entry))) (edgeCosts (now (up .entry)) (now (down .entry))) (from .0) (to .0) (now (list .entry)) ⌝ }
+{
+    if let Check::Fails(refusal) = check_question(order.len(), from, to) {
+        return RouteAnswer::Refused(refusal);
+    }
+    route_between(
+        tails,
+        heads,
+        costs,
+        order,
+        rank,
+        first,
+        row_heads,
+        up,
+        down,
+        from,
+        to,
+        list,
+    )
+}
 
 // The line of one question.
 fn answer_question<'a>(
@@ -39,12 +81,12 @@ fn answer_question<'a>(
     output: &mut [u8; 98304],
     at: usize,
 ) -> usize
-    requires { ⌜ (customiseChecks (net (now tails) (now heads) (now costs) (now order)) (now rank) (now first) (now «row_heads») (now up) (now down) ≡ passes) × (length (now tails) ≤ 1024) × (at + 1400 ≤ 98304) × (length (now output) ≡ 98304) ⌝ }
-    ensures { λ r. ⌜ Wrote (now (output .entry)) at (replyLine (from .0) (to .0) (routeLeaves (net (now (tails .entry)) (now (heads .entry)) (now (costs .entry)) (now (order .entry))) (now (rank .entry)) (now (first .entry)) (now («row_heads» .entry)) (now (up .entry)) (now (down .entry)) (from .0) (to .0) (noughts 256))) (now (output .exit)) r ⌝ }
+    requires { ⌜ (customiseChecks (net (now tails) (now heads) (now costs) (now order)) (now rank) (graph (now first) (now «row_heads»)) (edgeCosts (now up) (now down)) ≡ passes) × (length (now tails) ≤ 1024) × (at + 1400 ≤ 98304) × (length (now output) ≡ 98304) ⌝ }
+    ensures { λ r. ⌜ Wrote (now (output .entry)) at (replyLine (from .0) (to .0) (routeLeaves (net (now (tails .entry)) (now (heads .entry)) (now (costs .entry)) (now (order .entry))) (now (rank .entry)) (graph (now (first .entry)) (now («row_heads» .entry))) (edgeCosts (now (up .entry)) (now (down .entry))) (from .0) (to .0) (noughts 256))) (now (output .exit)) r ⌝ }
     ensures few { λ r. ⌜ r ≤ at + 1400 ⌝ }
 {
     let mut list = [0u32; 256];
-    let answer = route_between(
+    let answer = ask_route(
         tails,
         heads,
         costs,
@@ -77,8 +119,8 @@ fn answer_questions<'a>(
     output: &mut [u8; 98304],
     start: usize,
 ) -> usize
-    requires { ⌜ (customiseChecks (net (now tails) (now heads) (now costs) (now order)) (now rank) (now first) (now «row_heads») (now up) (now down) ≡ passes) × Limits (now tails) (now froms) (now tos) × (start ≤ 27) × (length (now output) ≡ 98304) ⌝ }
-    ensures { λ r. ⌜ Wrote (now (output .entry)) start (replyLines (net (now (tails .entry)) (now (heads .entry)) (now (costs .entry)) (now (order .entry))) (now (rank .entry)) (now (first .entry)) (now («row_heads» .entry)) (now (up .entry)) (now (down .entry)) (now (froms .entry)) (now (tos .entry))) (now (output .exit)) r ⌝ }
+    requires { ⌜ (customiseChecks (net (now tails) (now heads) (now costs) (now order)) (now rank) (graph (now first) (now «row_heads»)) (edgeCosts (now up) (now down)) ≡ passes) × Limits (now tails) (now froms) (now tos) × (start ≤ 27) × (length (now output) ≡ 98304) ⌝ }
+    ensures { λ r. ⌜ Wrote (now (output .entry)) start (replyLines (net (now (tails .entry)) (now (heads .entry)) (now (costs .entry)) (now (order .entry))) (now (rank .entry)) (graph (now (first .entry)) (now («row_heads» .entry))) (edgeCosts (now (up .entry)) (now (down .entry))) (now (froms .entry)) (now (tos .entry))) (now (output .exit)) r ⌝ }
 {
     let mut at = start;
     let mut i = 0;
@@ -120,7 +162,7 @@ fn answer_built(
     output: &mut [u8; 98304],
 ) -> usize
     requires { ⌜ Limits (now tails) (now froms) (now tos) × (length (now output) ≡ 98304) ⌝ }
-    ensures { λ r. ⌜ Wrote (now (output .entry)) 0 (answerCustomised (net (now (tails .entry)) (now (heads .entry)) (now (costs .entry)) (now (order .entry))) (buildLeft (now (rank .entry)) (now (first .entry)) (now («row_heads» .entry)) (edges e)) e (now (froms .entry)) (now (tos .entry)) (customiseLeaves (net (now (tails .entry)) (now (heads .entry)) (now (costs .entry)) (now (order .entry))) (now (rank .entry)) (now (first .entry)) (now («row_heads» .entry)) (noughts 4096) (noughts 4096))) (now (output .exit)) r ⌝ }
+    ensures { λ r. ⌜ Wrote (now (output .entry)) 0 (answerCustomised (net (now (tails .entry)) (now (heads .entry)) (now (costs .entry)) (now (order .entry))) (buildLeft (now (rank .entry)) (graph (now (first .entry)) (now («row_heads» .entry))) (edges e)) e (now (froms .entry)) (now (tos .entry)) (customiseLeaves (net (now (tails .entry)) (now (heads .entry)) (now (costs .entry)) (now (order .entry))) (now (rank .entry)) (graph (now (first .entry)) (now («row_heads» .entry))) (edgeCosts (noughts 4096) (noughts 4096)))) (now (output .exit)) r ⌝ }
 {
     let mut up = [0u32; 4096];
     let mut down = [0u32; 4096];
@@ -169,7 +211,7 @@ fn answer_text(
     output: &mut [u8; 98304],
 ) -> usize
     requires { ⌜ Limits (now tails) (now froms) (now tos) × (length (now output) ≡ 98304) ⌝ }
-    ensures { λ r. ⌜ Wrote (now (output .entry)) 0 (answerBuilt (net (now (tails .entry)) (now (heads .entry)) (now (costs .entry)) (now (order .entry))) (now (froms .entry)) (now (tos .entry)) (buildLeaves (now (tails .entry)) (now (heads .entry)) (now (order .entry)) (now (rank .entry)) (now (first .entry)) (now («row_heads» .entry)))) (now (output .exit)) r ⌝ }
+    ensures { λ r. ⌜ Wrote (now (output .entry)) 0 (answerBuilt (net (now (tails .entry)) (now (heads .entry)) (now (costs .entry)) (now (order .entry))) (now (froms .entry)) (now (tos .entry)) (buildLeaves (now (tails .entry)) (now (heads .entry)) (now (order .entry)) (now (rank .entry)) (graph (now (first .entry)) (now («row_heads» .entry))))) (now (output .exit)) r ⌝ }
 {
     match build(tails, heads, order, rank, first, row_heads) {
         BuildAnswer::Edges(e) => answer_built(
@@ -200,7 +242,7 @@ fn answer_read(
     output: &mut [u8; 98304],
 ) -> usize
     requires { ⌜ Limits (now tails) (now froms) (now tos) × (length (now order) ≤ 256) × (length (now output) ≡ 98304) ⌝ }
-    ensures { λ r. ⌜ Wrote (now (output .entry)) 0 (answerBuilt (net (now (tails .entry)) (now (heads .entry)) (now (costs .entry)) (now (order .entry))) (now (froms .entry)) (now (tos .entry)) (buildLeaves (now (tails .entry)) (now (heads .entry)) (now (order .entry)) (noughts (length (now (order .entry)))) (noughts (suc (length (now (order .entry))))) (noughts 4096))) (now (output .exit)) r ⌝ }
+    ensures { λ r. ⌜ Wrote (now (output .entry)) 0 (answerBuilt (net (now (tails .entry)) (now (heads .entry)) (now (costs .entry)) (now (order .entry))) (now (froms .entry)) (now (tos .entry)) (buildLeaves (now (tails .entry)) (now (heads .entry)) (now (order .entry)) (noughts (length (now (order .entry)))) (graph (noughts (suc (length (now (order .entry))))) (noughts 4096)))) (now (output .exit)) r ⌝ }
 {
     let n = order.len();
     let mut rank = [0u32; 256];

@@ -1,2 +1,2 @@
-pub mod StateLaws
-pub mod ReadLaws
+pub mod Stored
+pub mod ReadAll

@@ -29,7 +29,7 @@ arcsThere s = s .started && eqb (s .listed) (s .arcs)
 abbrev pub allThere : State → Bool
 allThere s = arcsThere s && eqb (s .seated) (s .junctions)
 
-abbrev pub begun : State → ℕ → ℕ → Step
+abbrev pub begun : (s : State) (n m : ℕ) → Step
 begun s n m =
     cond (s .started) Unfit
     (Next (record { started = true; junctions = n; arcs = m; listed = 0; seated = 0; asked = 0 }))
@@ -74,7 +74,7 @@ questionStep s =
     Unfit
 
 -- a list with what the line stores at its place, or as it was
-abbrev pub kept : Step → List ℕ → ℕ → ℕ → List ℕ
+abbrev pub kept : (step : Step) (l : List ℕ) (at x : ℕ) → List ℕ
 kept (Next s) l at x = set l at x
 kept Unfit l at x = l
 
@@ -107,7 +107,7 @@ pub record Rooms (tails heads costs order froms tos : List ℕ) : Type 0 where
   pub tos-room : length tos ≡ 64
 
 -- what has been read so far stands at the beginning of each list
-abbrev pub soFar : State → List ℕ → List ℕ → List ℕ → List ℕ → List ℕ → List ℕ → Read
+abbrev pub soFar : (s : State) (tails heads costs order froms tos : List ℕ) → Read
 soFar s tails heads costs order froms tos =
     record {
       started = s .started;
@@ -129,7 +129,7 @@ pub data Placed : Type 0 where
 abbrev pub placedOf : Read → Line → Placed
 placedOf r l = cond (fits r l) (placed (with r l)) unfit
 
-abbrev pub stepBack : Step → List ℕ → List ℕ → List ℕ → List ℕ → List ℕ → List ℕ → Placed
+abbrev pub stepBack : (step : Step) (tails heads costs order froms tos : List ℕ) → Placed
 stepBack (Next s) tails heads costs order froms tos = placed (soFar s tails heads costs order froms tos)
 stepBack Unfit tails heads costs order froms tos = unfit
 
@@ -138,43 +138,43 @@ StepFits (Next s) = Within s
 StepFits Unfit = Unit {0}
 
 -- a line was stored
-pub record Stored (s : State) (l : Line) (t h k o f g : List ℕ) (r : Step) (t′ h′ k′ o′ f′ g′ : List ℕ) : Type 0 where
-  pub says : stepBack r t′ h′ k′ o′ f′ g′ ≡ placedOf (soFar s t h k o f g) l
+pub record Stored (s : State) (l : Line) (tails heads costs order froms tos : List ℕ) (r : Step) (tails′ heads′ costs′ order′ froms′ tos′ : List ℕ) : Type 0 where
+  pub says : stepBack r tails′ heads′ costs′ order′ froms′ tos′ ≡ placedOf (soFar s tails heads costs order froms tos) l
   pub within : StepFits r
-  pub rooms : Rooms t′ h′ k′ o′ f′ g′
+  pub rooms : Rooms tails′ heads′ costs′ order′ froms′ tos′
 
 -- reading goes on behind a line with what was read by then, or stops at that line
-pub record Behind (bytes : List ℕ) (at : ℕ) (r : Read) (s : State) (next : ℕ) (t h k o f g : List ℕ) : Type 0 where
+pub record Behind (bytes : List ℕ) (at : ℕ) (r : Read) (s : State) (next : ℕ) (tails heads costs order froms tos : List ℕ) : Type 0 where
   pub on : at < next
   pub fits-in : next ≤ length bytes
   pub within : Within s
-  pub says : (line : ℕ) → readOn r line (linesOf (drop at bytes)) ≡ readOn (soFar s t h k o f g) (suc line) (linesOf (drop next bytes))
+  pub says : (line : ℕ) → readOn r line (linesOf (drop at bytes)) ≡ readOn (soFar s tails heads costs order froms tos) (suc line) (linesOf (drop next bytes))
 
-abbrev pub Onwards : List ℕ → ℕ → Read → Onward → List ℕ → List ℕ → List ℕ → List ℕ → List ℕ → List ℕ → Type 0
-Onwards bytes at r (To s c) t h k o f g = Behind bytes at r s (c .at) t h k o f g × Rooms t h k o f g
-Onwards bytes at r Stopped t h k o f g = ((line : ℕ) → readOn r line (linesOf (drop at bytes)) ≡ breaks line) × Rooms t h k o f g
+abbrev pub Onwards : (bytes : List ℕ) (at : ℕ) (r : Read) (onward : Onward) (tails heads costs order froms tos : List ℕ) → Type 0
+Onwards bytes at r (To s c) tails heads costs order froms tos = Behind bytes at r s (c .at) tails heads costs order froms tos × Rooms tails heads costs order froms tos
+Onwards bytes at r Stopped tails heads costs order froms tos = ((line : ℕ) → readOn r line (linesOf (drop at bytes)) ≡ breaks line) × Rooms tails heads costs order froms tos
 
 -- ---- the end
 
-abbrev pub finished : State → ℕ → Reading
+abbrev pub finished : (s : State) (line : ℕ) → Reading
 finished s line =
     cond (allThere s) (Text (record { junctions = s .junctions; arcs = s .arcs; questions = s .asked })) (Breaks line)
 
 -- what the reader answers, with the lists as it leaves them, in the words of the definition
-abbrev pub readingOf : Reading → List ℕ → List ℕ → List ℕ → List ℕ → List ℕ → List ℕ → Program.Reading
-readingOf (Text c) t h k o f g =
+abbrev pub readingOf : (reading : Reading) (tails heads costs order froms tos : List ℕ) → Program.Reading
+readingOf (Text c) tails heads costs order froms tos =
     text (record {
       started = true;
       junctions = c .junctions;
       arcs = c .arcs;
-      tails = take (c .arcs) t;
-      heads = take (c .arcs) h;
-      costs = take (c .arcs) k;
-      order = take (c .junctions) o;
-      froms = take (c .questions) f;
-      tos = take (c .questions) g;
+      tails = take (c .arcs) tails;
+      heads = take (c .arcs) heads;
+      costs = take (c .arcs) costs;
+      order = take (c .junctions) order;
+      froms = take (c .questions) froms;
+      tos = take (c .questions) tos;
     })
-readingOf (Breaks line) t h k o f g = breaks line
+readingOf (Breaks line) tails heads costs order froms tos = breaks line
 
 -- the counts stay within the lists
 pub record CountsWithin (c : Counts) : Type 0 where

@@ -1,3 +1,3 @@
-pub mod ProgramHolds
-pub mod WordLaws
-pub mod LineLaws
+pub mod ProgramExamples
+pub mod TakenFrom
+pub mod LineOf

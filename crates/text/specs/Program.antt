@@ -1,5 +1,5 @@
 -- "The program": what `route` reads and what it prints, as one function from the input's bytes to the output's bytes. Assumes nothing.
-use Prim.Native.Nat.{ℕ, zero, suc, _+_, _-_}
+use Prim.Native.Nat.{ℕ, suc, _-_}
 use mathlib.Core.Bool.{Bool, true, false, cond, not, _&&_, _||_}
 use mathlib.Core.List.{List, [], _∷_, _++_, map}
 use lib.Dec.{eqb, ltb, leb}
@@ -7,6 +7,8 @@ use lib.ListN.{length, getD, replicate, take}
 use Rattle.rules.specs.Costs.{closed}
 use Rattle.rules.specs.Replies.{Reply, refused, edges, done, far, drive, noWalk}
 use Rattle.rules.specs.Net.{Net, net}
+use Rattle.rules.specs.Graph.{Graph, graph}
+use Rattle.rules.specs.Hierarchy.{EdgeCosts, edgeCosts}
 use Rattle.rules.specs.Calls.{BuildLeaves, CustomiseLeaves, RouteLeaves, buildLeaves, customiseLeaves, routeLeaves}
 use Rattle.text.specs.Bytes.{lf, space, same, cutAt, words, isNumber, numberAfter, numberOf, decimal}
 
@@ -16,37 +18,37 @@ use Rattle.text.specs.Bytes.{lf, space, same, cutAt, words, isNumber, nu
 -- of `q from to`"; "any other line"
 pub data Line : Type 0 where
   comment : Line
-  problem : ℕ → ℕ → Line
-  arc : ℕ → ℕ → ℕ → Line
-  seat : ℕ → Line
-  question : ℕ → ℕ → Line
+  problem : (junctions arcs : ℕ) → Line
+  arc : (tail head cost : ℕ) → Line
+  seat : (junction : ℕ) → Line
+  question : (from to : ℕ) → Line
   other : Line
 
 -- the k-th word, from 0
-abbrev pub word : List (List ℕ) → ℕ → List ℕ
+abbrev pub word : (ws : List (List ℕ)) (k : ℕ) → List ℕ
 word ws k = getD ws k []
 
 -- "junctions from 1"; "a junction 0 .. is 14"
-unfoldable pub isJunction : List ℕ → Bool
+unfoldable pub isJunction : (w : List ℕ) → Bool
 unfolding isNumber numberAfter
 isJunction w = isNumber w && not (eqb (numberOf w) 0)
 
 -- "cost `-` is CLOSED"
-unfoldable pub isCost : List ℕ → Bool
+unfoldable pub isCost : (w : List ℕ) → Bool
 unfolding isNumber same
 isCost w = isNumber w || same w (45 ∷ [])
 
-unfoldable pub costOfWord : List ℕ → ℕ
+unfoldable pub costOfWord : (w : List ℕ) → ℕ
 unfolding same numberAfter
 costOfWord w = cond (same w (45 ∷ [])) closed (numberOf w)
 
 -- a comment: "Lines whose first word is `c`"
-unfoldable pub isComment : List (List ℕ) → Bool
+unfoldable pub isComment : (ws : List (List ℕ)) → Bool
 unfolding same
 isComment ws = same (word ws 0) (99 ∷ [])
 
 -- `p sp n m`; "Over 256 junctions, 1,024 arcs .. is 14"
-unfoldable pub isProblem : List (List ℕ) → Bool
+unfoldable pub isProblem : (ws : List (List ℕ)) → Bool
 unfolding same isNumber numberAfter
 isProblem ws =
     eqb (length ws) 4
@@ -58,7 +60,7 @@ isProblem ws =
     && leb (numberOf (word ws 3)) 1024
 
 -- `a tail head cost`
-unfoldable pub isArc : List (List ℕ) → Bool
+unfoldable pub isArc : (ws : List (List ℕ)) → Bool
 unfolding same isJunction isCost
 isArc ws =
     eqb (length ws) 4
@@ -68,18 +70,18 @@ isArc ws =
     && isCost (word ws 3)
 
 -- `o junction`
-unfoldable pub isSeat : List (List ℕ) → Bool
+unfoldable pub isSeat : (ws : List (List ℕ)) → Bool
 unfolding same isJunction
 isSeat ws = eqb (length ws) 2 && same (word ws 0) (111 ∷ []) && isJunction (word ws 1)
 
 -- `q from to`
-unfoldable pub isQuestion : List (List ℕ) → Bool
+unfoldable pub isQuestion : (ws : List (List ℕ)) → Bool
 unfolding same isJunction
 isQuestion ws =
     eqb (length ws) 3 && same (word ws 0) (113 ∷ []) && isJunction (word ws 1) && isJunction (word ws 2)
 
 -- what the words of a line say; junctions are counted from 0 from here on
-unfoldable pub lineOf : List (List ℕ) → Line
+unfoldable pub lineOf : (ws : List (List ℕ)) → Line
 unfolding isComment isProblem isArc isSeat isQuestion costOfWord numberAfter
 lineOf ws =
     cond (isComment ws) comment
@@ -92,13 +94,13 @@ lineOf ws =
 -- ---- the lines
 
 -- "lines ended by LF"; "a last line without LF is 14": what stands after the last LF, if anything does, is no line that may stand there
-unfoldable pub endedLines : List (List ℕ) → List Line
+unfoldable pub endedLines : (texts : List (List ℕ)) → List Line
 unfolding lineOf
 endedLines [] = []
 endedLines (text ∷ []) = cond (eqb (length text) 0) [] (other ∷ [])
 endedLines (text ∷ next ∷ rest) = lineOf (words text) ∷ endedLines (next ∷ rest)
 
-abbrev pub linesOf : List ℕ → List Line
+abbrev pub linesOf : (input : List ℕ) → List Line
 linesOf input = endedLines (cutAt lf input)
 
 -- what has been read so far
@@ -120,7 +122,7 @@ nothingRead =
 -- what reading comes to: the text, or the line that breaks its rules
 pub data Reading : Type 0 where
   text : Read → Reading
-  breaks : ℕ → Reading
+  breaks : (line : ℕ) → Reading
 
 -- whether the line may stand where it does: `p` first, then m `a`, then n `o`, then at most 64 `q`
 unfoldable pub fits : Read → Line → Bool
@@ -183,36 +185,36 @@ unfoldable pub whole : Read → Bool
 whole r = r .started && eqb (length (r .tails)) (r .arcs) && eqb (length (r .order)) (r .junctions)
 
 -- "Lines count from 1"; "one that ends early the line after its last": reading on from line k
-unfoldable pub readOn : Read → ℕ → List Line → Reading
+unfoldable pub readOn : (r : Read) (k : ℕ) (lines : List Line) → Reading
 unfolding fits with whole
 readOn r k [] = cond (whole r) (text r) (breaks k)
 readOn r k (l ∷ ls) = cond (fits r l) (readOn (with r l) (suc k) ls) (breaks k)
 
 -- "Over .. 65,536 bytes .. is 14"; "too long an input gives line 0"
-unfoldable pub readAll : List ℕ → Reading
+unfoldable pub readAll : (input : List ℕ) → Reading
 unfolding readOn endedLines cutAt
 readAll input = cond (ltb 65536 (length input)) (breaks 0) (readOn nothingRead 1 (linesOf input))
 
 -- ---- the answer
 
 -- `edges E`, LF
-unfoldable pub edgesLine : ℕ → List ℕ
+unfoldable pub edgesLine : (e : ℕ) → List ℕ
 unfolding decimal
 edgesLine e = (101 ∷ 100 ∷ 103 ∷ 101 ∷ 115 ∷ space ∷ []) ++ decimal e ++ (lf ∷ [])
 
 -- `refused N`, LF
-unfoldable pub refusedLine : ℕ → List ℕ
+unfoldable pub refusedLine : (n : ℕ) → List ℕ
 unfolding decimal
 refusedLine n = (114 ∷ 101 ∷ 102 ∷ 117 ∷ 115 ∷ 101 ∷ 100 ∷ space ∷ []) ++ decimal n ++ (lf ∷ [])
 
 -- numbers, each after a space
-unfoldable pub spaced : List ℕ → List ℕ
+unfoldable pub spaced : (numbers : List ℕ) → List ℕ
 unfolding decimal
 spaced [] = []
 spaced (x ∷ xs) = (space ∷ []) ++ decimal x ++ spaced xs
 
 -- "from, to, distance, number of arcs, arc numbers counted from 1. No walk: `from to none`. A refused question: `from to refused N`"
-unfoldable pub replyLine : ℕ → ℕ → RouteLeaves → List ℕ
+unfoldable pub replyLine : (from to : ℕ) (left : RouteLeaves) → List ℕ
 unfolding decimal spaced refusedLine
 replyLine from to left = decimal (suc from) ++ spaced (suc to ∷ []) ++ ending (left .reply)
   where
@@ -225,25 +227,24 @@ replyLine from to left = decimal (suc from) ++ spaced (suc to ∷ []) ++ ending 
     ending (far d) = lf ∷ []
 
 -- "Heads room is 4,096, route room 256"; up and down have as many places as heads
-abbrev pub noughts : ℕ → List ℕ
+abbrev pub noughts : (n : ℕ) → List ℕ
 noughts n = replicate n 0
 
 -- "Then per question", each asked of the same lists
-unfoldable pub replyLines : Net → List ℕ → List ℕ → List ℕ → List ℕ → List ℕ → List ℕ → List ℕ → List ℕ
+unfoldable pub replyLines : (N : Net) (rank : List ℕ) (G : Graph) (C : EdgeCosts) (froms tos : List ℕ) → List ℕ
 unfolding replyLine routeLeaves
-replyLines N rank first rowHeads up down [] tos = []
-replyLines N rank first rowHeads up down (u ∷ us) [] = []
-replyLines N rank first rowHeads up down (u ∷ us) (v ∷ vs) =
-    replyLine u v (routeLeaves N rank first rowHeads up down u v (noughts 256))
-    ++ replyLines N rank first rowHeads up down us vs
+replyLines N rank G C [] tos = []
+replyLines N rank G C (u ∷ us) [] = []
+replyLines N rank G C (u ∷ us) (v ∷ vs) =
+    replyLine u v (routeLeaves N rank G C u v (noughts 256)) ++ replyLines N rank G C us vs
 
 -- "First line: E. Then per question"; "Any earlier refusal prints only `refused N`": once the graph has been customised
-unfoldable pub answerCustomised : Net → BuildLeaves → ℕ → List ℕ → List ℕ → CustomiseLeaves → List ℕ
+unfoldable pub answerCustomised : (N : Net) (b : BuildLeaves) (e : ℕ) (froms tos : List ℕ) (c : CustomiseLeaves) → List ℕ
 unfolding edgesLine refusedLine replyLines
 answerCustomised N b e froms tos c = ending (c .reply)
   where
     ending : Reply → List ℕ
-    ending done = edgesLine e ++ replyLines N (b .rank) (b .first) (b .heads) (c .up) (c .down) froms tos
+    ending done = edgesLine e ++ replyLines N (b .rank) (b .rows) (c .costs) froms tos
     ending (refused n p) = refusedLine n
     ending (edges k) = []
     ending (far d) = []
@@ -251,13 +252,13 @@ answerCustomised N b e froms tos c = ending (c .reply)
     ending noWalk = []
 
 -- once the graph has been built
-unfoldable pub answerBuilt : Net → List ℕ → List ℕ → BuildLeaves → List ℕ
+unfoldable pub answerBuilt : (N : Net) (froms tos : List ℕ) (b : BuildLeaves) → List ℕ
 unfolding answerCustomised refusedLine customiseLeaves
 answerBuilt N froms tos b = ending (b .reply)
   where
     ending : Reply → List ℕ
     ending (edges e) =
-        answerCustomised N b e froms tos (customiseLeaves N (b .rank) (b .first) (b .heads) (noughts 4096) (noughts 4096))
+        answerCustomised N b e froms tos (customiseLeaves N (b .rank) (b .rows) (edgeCosts (noughts 4096) (noughts 4096)))
     ending (refused n p) = refusedLine n
     ending done = []
     ending (far d) = []
@@ -269,9 +270,9 @@ unfolding answerBuilt refusedLine buildLeaves
 answerRead (breaks line) = refusedLine 14
 answerRead (text r) =
     answerBuilt (net (r .tails) (r .heads) (r .costs) (r .order)) (r .froms) (r .tos)
-    (buildLeaves (r .tails) (r .heads) (r .order) (noughts (r .junctions)) (noughts (suc (r .junctions))) (noughts 4096))
+    (buildLeaves (r .tails) (r .heads) (r .order) (noughts (r .junctions)) (graph (noughts (suc (r .junctions))) (noughts 4096)))
 
 -- the whole answer
-unfoldable pub answer : List ℕ → List ℕ
+unfoldable pub answer : (input : List ℕ) → List ℕ
 unfolding readAll answerRead
 answer input = answerRead (readAll input)

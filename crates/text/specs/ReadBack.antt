@@ -20,7 +20,7 @@ use Rattle.text.specs.Program.{Line, comment, problem, arc, seat, questi
 -- ---- parts and words
 
 -- the parts that follow a part which ends at `at`, in the bytes up to `to`
-unfoldable pub partsAfter : ℕ → List ℕ → ℕ → ℕ → List (List ℕ)
+unfoldable pub partsAfter : (mark : ℕ) (bytes : List ℕ) (at to : ℕ) → List (List ℕ)
 unfolding cutAt
 partsAfter mark bytes at to = cond (ltb at to) (cutAt mark (slice (suc at) to bytes)) []
 
@@ -31,39 +31,39 @@ pub record PartEnd (bytes : List ℕ) (from to mark at : ℕ) : Type 0 where
   pub cut : cutAt mark (slice from to bytes) ≡ slice from at bytes ∷ partsAfter mark bytes at to
 
 -- the words of a line which ends at `to`, from a cursor on
-unfoldable pub wordsFrom : List ℕ → ℕ → ℕ → List (List ℕ)
+unfoldable pub wordsFrom : (bytes : List ℕ) (to at : ℕ) → List (List ℕ)
 unfolding cutAt
 wordsFrom bytes to at = cond (leb at to) (cutAt space (slice at to bytes)) []
 
 -- the word is the one byte
-abbrev pub isCalled : ℕ → List ℕ → Bool
+abbrev pub isCalled : (byte : ℕ) (word : List ℕ) → Bool
 isCalled byte word = same word (byte ∷ [])
 
 -- ---- what a word says
 
-abbrev pub saidIf : Bool → ℕ → Value
-saidIf t x = cond t (Is x) Not
+abbrev pub saidIf : (test : Bool) (x : ℕ) → Value
+saidIf test x = cond test (Is x) Not
 
-unfoldable pub numberSaid : List ℕ → Value
+unfoldable pub numberSaid : (word : List ℕ) → Value
 unfolding isNumber numberAfter
 numberSaid word = saidIf (isNumber word) (numberOf word)
 
-unfoldable pub letterSaid : List ℕ → Value
+unfoldable pub letterSaid : (word : List ℕ) → Value
 letterSaid word = saidIf (eqb (length word) 1) (getD word 0 0)
 
-unfoldable pub spSaid : List ℕ → Value
+unfoldable pub spSaid : (word : List ℕ) → Value
 unfolding same
 spSaid word = saidIf (same word (115 ∷ 112 ∷ [])) 0
 
-unfoldable pub junctionSaid : List ℕ → Value
+unfoldable pub junctionSaid : (word : List ℕ) → Value
 unfolding isJunction numberAfter
 junctionSaid word = saidIf (isJunction word) (numberOf word - 1)
 
-unfoldable pub costSaid : List ℕ → Value
+unfoldable pub costSaid : (word : List ℕ) → Value
 unfolding isCost costOfWord
 costSaid word = saidIf (isCost word) (costOfWord word)
 
-abbrev pub valueSaid : Kind → List ℕ → Value
+abbrev pub valueSaid : (kind : Kind) (word : List ℕ) → Value
 valueSaid kind.Letter word = letterSaid word
 valueSaid kind.Sp word = spSaid word
 valueSaid kind.Number word = numberSaid word
@@ -72,19 +72,19 @@ valueSaid kind.Cost word = costSaid word
 
 -- the first of some words, by its kind, and the words after it
 pub data FirstWord : Type 0 where
-  first : ℕ → List (List ℕ) → FirstWord
+  first : (x : ℕ) (rest : List (List ℕ)) → FirstWord
   nothing : FirstWord
 
-abbrev pub firstSaid : Value → List (List ℕ) → FirstWord
+abbrev pub firstSaid : (value : Value) (rest : List (List ℕ)) → FirstWord
 firstSaid (Is x) rest = first x rest
 firstSaid Not rest = nothing
 
-unfoldable pub takenFrom : Kind → List (List ℕ) → FirstWord
+unfoldable pub takenFrom : (kind : Kind) (ws : List (List ℕ)) → FirstWord
 takenFrom k [] = nothing
 takenFrom k (word ∷ rest) = firstSaid (valueSaid k word) rest
 
 -- what the reader took, with the words that its cursor leaves
-abbrev pub takenBack : List ℕ → ℕ → Taken → FirstWord
+abbrev pub takenBack : (bytes : List ℕ) (to : ℕ) (taken : Taken) → FirstWord
 takenBack bytes to (Word x c) = first x (wordsFrom bytes to (c .at))
 takenBack bytes to Nothing = nothing
 
@@ -99,32 +99,32 @@ lineBack (Question u v) = question (u .0) (v .0)
 lineBack Other = other
 
 -- a line that has no word more
-abbrev pub last : Line → List (List ℕ) → Line
+abbrev pub last : (line : Line) (ws : List (List ℕ)) → Line
 last l [] = l
 last l (w ∷ ws) = other
 
 -- the next word, or another line
-abbrev pub next : FirstWord → (ℕ → List (List ℕ) → Line) → Line
+abbrev pub next : (word : FirstWord) (rest : ℕ → List (List ℕ) → Line) → Line
 next (first x rest) f = f x rest
 next nothing f = other
 
-unfoldable pub problemSaid : List (List ℕ) → Line
+unfoldable pub problemSaid : (ws : List (List ℕ)) → Line
 unfolding takenFrom
 problemSaid ws =
     next (takenFrom kind.Sp ws) λ s ws. next (takenFrom kind.Number ws) λ n ws. next (takenFrom kind.Number ws) λ m ws.
     last (cond (leb n 256 && leb m 1024) (problem n m) other) ws
 
-unfoldable pub arcSaid : List (List ℕ) → Line
+unfoldable pub arcSaid : (ws : List (List ℕ)) → Line
 unfolding takenFrom
 arcSaid ws =
     next (takenFrom kind.Junction ws) λ t ws. next (takenFrom kind.Junction ws) λ h ws. next (takenFrom kind.Cost ws) λ c ws.
     last (arc t h c) ws
 
-unfoldable pub seatSaid : List (List ℕ) → Line
+unfoldable pub seatSaid : (ws : List (List ℕ)) → Line
 unfolding takenFrom
 seatSaid ws = next (takenFrom kind.Junction ws) λ j ws. last (seat j) ws
 
-unfoldable pub questionSaid : List (List ℕ) → Line
+unfoldable pub questionSaid : (ws : List (List ℕ)) → Line
 unfolding takenFrom
 questionSaid ws =
     next (takenFrom kind.Junction ws) λ u ws. next (takenFrom kind.Junction ws) λ v ws. last (question u v) ws

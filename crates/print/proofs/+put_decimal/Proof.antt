@@ -5,7 +5,7 @@ use mathlib.Core.Path.{_∙_}
 use native.Mathlib.Omega.{arith}
 use borrow.Fn.Kinds.{In}
 use borrow.Fn.PlainCycle.{Measures, is, falls, and}
-use Rattle.print.proofs.PrintLaws.{wrote-then, number-ends, decimal-one, decimal-more, decimal-room}
+use Rattle.print.proofs.Wrote.{wrote-then, number-ends, decimal-one, decimal-more, decimal-room}
 use Rattle.print.proofs.put_decimal.Reads as put-decimal
 use Rattle.print.proofs.put_decimal.Kinds as put-decimal-kinds
 use Rattle.print.proofs.+put_decimal.Lts-put_decimal as put-decimal-lts

@@ -1,5 +1,5 @@
 -- `put_arcs` meets its contract: the first i arc numbers have been written. Assumes nothing.
-use Rattle.print.proofs.PrintLaws.{wrote-none, arcs-none, arcs-step}
+use Rattle.print.proofs.Wrote.{wrote-none, arcs-none, arcs-step}
 use Rattle.print.specs.Written.{Wrote, arcsWritten}
 use native.Mathlib.Omega.{arith}
 use mathlib.Core.Path.{_≡_, _∙_}

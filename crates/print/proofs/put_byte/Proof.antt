@@ -1,5 +1,5 @@
 -- `put_byte` meets its contract. Assumes nothing.
-use Rattle.print.proofs.PrintLaws.{wrote-byte}
+use Rattle.print.proofs.Wrote.{wrote-byte}
 use native.Mathlib.Omega.{arith}
 use borrow.Author.Needs.{needs}
 use Rattle.print.proofs.put_byte.Statement.{statement}

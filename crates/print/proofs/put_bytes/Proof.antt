@@ -1,5 +1,5 @@
 -- `put_bytes` meets its contract: the first k bytes have been written. Assumes nothing.
-use Rattle.print.proofs.PrintLaws.{bytes-none, bytes-more, bytes-all}
+use Rattle.print.proofs.Wrote.{bytes-none, bytes-more, bytes-all}
 use Rattle.print.specs.Written.{Wrote}
 use native.Mathlib.Omega.{arith}
 use lib.ListN.{length, take}

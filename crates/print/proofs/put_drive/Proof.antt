@@ -1,5 +1,5 @@
 -- `put_drive` meets its contract. Assumes nothing.
-use Rattle.print.proofs.PrintLaws.{wrote-then, drive-is}
+use Rattle.print.proofs.Wrote.{wrote-then, drive-is}
 use native.Mathlib.Omega.{arith}
 use borrow.Author.Needs.{needs}
 use Rattle.print.proofs.put_drive.Statement.{statement}

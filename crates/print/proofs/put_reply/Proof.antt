@@ -1,5 +1,5 @@
 -- `put_reply` meets its contract. Assumes nothing.
-use Rattle.print.proofs.PrintLaws.{wrote-then, reply-start}
+use Rattle.print.proofs.Wrote.{wrote-then, reply-start}
 use Rattle.print.specs.Written.{driveWritten}
 use Rattle.text.specs.Program.{replyLine}
 use mathlib.Core.Path.{_∙_}

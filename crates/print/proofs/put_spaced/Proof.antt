@@ -1,5 +1,5 @@
 -- `put_spaced` meets its contract. Assumes nothing.
-use Rattle.print.proofs.PrintLaws.{wrote-then, spaced-one}
+use Rattle.print.proofs.Wrote.{wrote-then, spaced-one}
 use native.Mathlib.Omega.{arith}
 use borrow.Author.Needs.{needs}
 use Rattle.print.proofs.put_spaced.Statement.{statement}

@@ -2,7 +2,7 @@
 use borrow.Author.Needs.{needs}
 use native.Mathlib.Omega.{arith}
 use Rattle.reader.specs.ReadOn.{CountsWithin}
-use Rattle.program.proofs.WholeLaws.{within, take-long, text-limits, order-fits, text-breaks, text-answered}
+use Rattle.program.proofs.AnswerLeaves.{within, take-long, text-limits, order-fits, text-breaks, text-answered}
 use Rattle.program.proofs.answer.Statement.{statement}
 use Rattle.program.proofs.answer.Tie as tie
 

@@ -1,13 +1,13 @@
 -- `next_line` meets its contract. Assumes nothing.
-use Rattle.reader.proofs.ReadLaws.{goes-on, stops-there, stops-unended}
-use Rattle.reader.proofs.StateLaws.{line-fits}
+use Rattle.reader.proofs.ReadAll.{goes-on, stops-there, stops-unended}
+use Rattle.reader.proofs.Stored.{line-fits}
 use native.Mathlib.Omega.{arith}
 use borrow.Author.Needs.{needs}
 use Rattle.reader.proofs.next_line.Statement.{statement}
 use Rattle.reader.proofs.next_line.Tie as tie
 
 returns : tie.Need-returns
-returns c = let a = c .before .before .before .args in (stops-unended (a .input .now) (a .at) (c .before .part-end .result) (c .before .part-end .ensures) _ (c .if1 .taken) (c .before .before .before .pre .0), c .before .before .before .pre .2)
+returns c = let a = c .before .before .before .args in let p = c .before .part-end .ensures in (stops-unended (a .input .now) (a .at) (c .before .part-end .result) p _ (omega (arith, p .high, c .if1 .taken)) (c .before .before .before .pre .0), c .before .before .before .pre .2)
 
 store-requires : tie.Need-store-requires
 store-requires c κs = (c .before .before .before .before .before .before .before .before .before .before .pre .1, rw (c .before .before .before .before .before .before .read-line .ensures) (line-fits _), c .before .before .before .before .before .before .before .before .before .before .pre .2)

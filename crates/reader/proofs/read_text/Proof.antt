@@ -1,6 +1,6 @@
 -- `read_text` meets its contract: what has been read by the line that comes next. Assumes nothing.
-use Rattle.reader.proofs.ReadLaws.{Reads, reads-none, too-long, reads-more, reads-stop, reads-all}
-use Rattle.reader.proofs.StateLaws.{finish-fits}
+use Rattle.reader.proofs.ReadAll.{Reads, reads-none, too-long, reads-more, reads-stop, reads-all}
+use Rattle.reader.proofs.Stored.{finish-fits}
 use native.Mathlib.Omega.{arith}
 use lib.ListN.{length}
 use Prim.Native.Nat.{_-_}

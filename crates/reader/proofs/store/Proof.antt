@@ -1,5 +1,5 @@
 -- `store` meets its contract: each kind of line by its own law. Assumes nothing.
-use Rattle.reader.proofs.StateLaws.{comment-stored, other-stored, begun-stored, arc-stored, seat-stored, question-stored}
+use Rattle.reader.proofs.Stored.{comment-stored, other-stored, begun-stored, arc-stored, seat-stored, question-stored}
 use borrow.Author.Needs.{needs}
 use Rattle.reader.proofs.store.Statement.{statement}
 use Rattle.reader.proofs.store.Tie as tie

@@ -1,6 +1,6 @@
 -- `main` keeps within its arrays: the answer stands in the output. Assumes nothing.
 use borrow.Author.Needs.{needs}
-use Rattle.program.proofs.WholeLaws.{take-long, answer-fits}
+use Rattle.program.proofs.AnswerLeaves.{take-long, answer-fits}
 use mathlib.Core.Path.{refl}
 use Rattle.route.proofs.main.Statement.{statement}
 use Rattle.route.proofs.main.Tie as tie

@@ -1,5 +1,5 @@
 -- `cost` meets its contract. Assumes nothing.
-use Rattle.text.proofs.WordLaws.{cost-closed, cost-number}
+use Rattle.text.proofs.TakenFrom.{cost-closed, cost-number}
 use lib.Seq.{slice}
 use mathlib.Core.Path.{sym, _∙_}
 use borrow.Author.Needs.{needs}

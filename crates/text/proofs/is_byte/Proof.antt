@@ -1,5 +1,5 @@
 -- `is_byte` meets its contract. Assumes nothing.
-use Rattle.text.proofs.WordLaws.{called, not-called}
+use Rattle.text.proofs.TakenFrom.{called, not-called}
 use borrow.Author.Needs.{needs}
 use Rattle.text.proofs.is_byte.Statement.{statement}
 use Rattle.text.proofs.is_byte.Tie as tie

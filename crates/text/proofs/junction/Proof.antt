@@ -1,5 +1,5 @@
 -- `junction` meets its contract. Assumes nothing.
-use Rattle.text.proofs.WordLaws.{junction-of}
+use Rattle.text.proofs.TakenFrom.{junction-of}
 use Rattle.text.specs.declared.Value.the-variants.{Is, Not}
 use lib.Seq.{slice}
 use mathlib.Core.Path.{sym, _∙_}

@@ -1,5 +1,5 @@
 -- `letter` meets its contract. Assumes nothing.
-use Rattle.text.proofs.WordLaws.{not-letter, a-letter}
+use Rattle.text.proofs.TakenFrom.{not-letter, a-letter}
 use native.Mathlib.Omega.{arith}
 use borrow.Author.Needs.{needs}
 use Rattle.text.proofs.letter.Statement.{statement}

@@ -1,7 +1,7 @@
 -- `number` meets its contract: the digits before place k have been counted. Assumes nothing.
 use Prim.Native.Nat.{_-_}
 use native.Mathlib.Omega.{arith}
-use Rattle.text.proofs.WordLaws.{Counted, no-digits, many-digits, counted-none, counted-fits, counted-more, counted-low, counted-high, counted-all}
+use Rattle.text.proofs.TakenFrom.{Counted, no-digits, many-digits, counted-none, counted-fits, counted-more, counted-low, counted-high, counted-all}
 use borrow.Author.Needs.{needs}
 use Rattle.text.proofs.number.Statement.{statement}
 use Rattle.text.proofs.number.Tie as tie
@@ -16,7 +16,7 @@ returns : tie.Need-returns Inv-loop μ-loop
 returns c = let a = c .before .args in no-digits (a .input .now) (a .from) (a .to) (c .before .pre .1) (c .if1 .taken)
 
 returns-2 : tie.Need-returns-2 Inv-loop μ-loop
-returns-2 c = let a = c .before .before .args in many-digits (a .input .now) (a .from) (a .to) (c .before .before .pre .1) (c .if2 .taken)
+returns-2 c = let a = c .before .before .args in many-digits (a .input .now) (a .from) (a .to) (c .before .before .pre .1) (omega (arith, c .if2 .taken))
 
 loop-holds : tie.Need-loop-holds Inv-loop μ-loop
 loop-holds c = let a = c .before .before .args in counted-none (a .input .now) (a .from) (a .to) (c .before .before .pre .0)

@@ -1,7 +1,7 @@
 -- `part_end` meets its contract: no mark stands before place k, so the part goes on there. Assumes nothing.
 use Prim.Native.Nat.{ℕ, _≤_, _-_}
 use Rattle.text.specs.ReadBack.{PartEnd}
-use Rattle.text.proofs.WordLaws.{part-here, part-none, part-on}
+use Rattle.text.proofs.TakenFrom.{part-here, part-none, part-on}
 use borrow.Author.Needs.{needs}
 use Rattle.text.proofs.part_end.Statement.{statement}
 use Rattle.text.proofs.part_end.Tie as tie

@@ -5,8 +5,8 @@ use lib.Dec.{leb}
 use borrow.Author.Tests.{le-leb, lt-leb}
 use Rattle.text.specs.Program.{problem, other}
 use Rattle.text.specs.ReadBack.{problemSaid}
-use Rattle.text.proofs.WordLaws.{words-none}
-use Rattle.text.proofs.LineLaws.{told, words-left}
+use Rattle.text.proofs.TakenFrom.{words-none}
+use Rattle.text.proofs.LineOf.{told, words-left}
 use borrow.Author.Needs.{needs}
 use Rattle.text.proofs.problem_line.Statement.{statement}
 use Rattle.text.proofs.problem_line.Tie as tie

@@ -1,5 +1,5 @@
 -- `read_line` meets its contract. Assumes nothing.
-use Rattle.text.proofs.LineLaws.{told, no-letter, by-letter, line-c, line-p, line-a, line-o, line-q, line-x}
+use Rattle.text.proofs.LineOf.{told, no-letter, by-letter, line-c, line-p, line-a, line-o, line-q, line-x}
 use Rattle.text.specs.ReadBack.{first, wordsFrom}
 use mathlib.Core.List.{[], _∷_}
 use lib.Seq.{slice}

@@ -1,5 +1,5 @@
 -- `sp` meets its contract. Assumes nothing.
-use Rattle.text.proofs.WordLaws.{not-sp, sp-of}
+use Rattle.text.proofs.TakenFrom.{not-sp, sp-of}
 use Prim.Native.Nat.{_+_}
 use lib.ListN.{getD}
 use borrow.Author.Tests.{eq-eqb, ne-eqb}

@@ -1,5 +1,5 @@
 -- `take_word` meets its contract. Assumes nothing.
-use Rattle.text.proofs.WordLaws.{take-none, take-first}
+use Rattle.text.proofs.TakenFrom.{take-none, take-first}
 use Rattle.text.specs.declared.Value.the-variants.{Is, Not}
 use mathlib.Core.Path.{sym, _∙_}
 use borrow.Author.Needs.{needs}

@@ -14,8 +14,8 @@ use Rattle.text.specs.Bytes.{lf, cutAt, words}
 use Rattle.text.specs.Program.{Line, other, lineOf, endedLines, linesOf, Read, breaks, fits, with, readOn, readAll}
 use Rattle.text.specs.ReadBack.{PartEnd, partsAfter}
 use Rattle.reader.specs.ReadOn.{nothingYet, Within, Rooms, soFar, placed, unfit, placedOf, stepBack, Behind, finished, readingOf}
-use Rattle.text.proofs.LineLaws.{some-part}
-use Rattle.reader.proofs.StateLaws.{finish-reads}
+use Rattle.text.proofs.LineOf.{some-part}
+use Rattle.reader.proofs.Stored.{finish-reads}
 
 -- the bytes up to the last are all there are
 whole-slice : (l : List ℕ) (at : ℕ) → slice at (length l) l ≡ drop at l

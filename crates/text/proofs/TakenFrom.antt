@@ -1,7 +1,7 @@
 -- Parts of a text, its words and its numbers, as a cursor meets them. Assumes nothing.
 use Prim.Native.Nat.{ℕ, suc, _+_, _*_, _-_, _^_, _≤_, _<_}
 use mathlib.Core.Path.{_≡_, refl, sym, ap, _∙_}
-use mathlib.Core.Bool.{Bool, true, false, not, _&&_, _||_}
+use mathlib.Core.Bool.{Bool, true, false, not, _&&_, _||_, and-true, and-false}
 use mathlib.Core.List.{List, [], _∷_}
 use native.Mathlib.Omega.{arith}
 use native.Mathlib.Numerals.{add-one}
@@ -50,11 +50,6 @@ part-on l to mark k r h g n p = record {
 }
 
 -- ---- numbers
-
--- a test that some part fails
-pub and-false : (b : Bool) → (b && false) ≡ false
-and-false true = refl
-and-false false = refl
 
 -- no digit, or ten and more, are no number
 pub no-digits : (l : List ℕ) (from to : ℕ) → to ≤ length l → from ≡ to → Not ≡ numberSaid (slice from to l)
@@ -127,11 +122,6 @@ counted-all l from to value k p e g s m =
     rw (d, v, t, le-leb 1 (to - from) (omega arith), le-leb (to - from) 9 m) refl
 
 -- ---- words of one byte
-
--- a test with a part that passes
-and-true : (b : Bool) → (b && true) ≡ b
-and-true true = refl
-and-true false = refl
 
 -- it is its one byte
 one-byte : (l : List ℕ) (from to : ℕ) → to - from ≡ 1 → to ≤ length l → slice from to l ≡ getD l from 0 ∷ []

@@ -20,55 +20,57 @@ use Rattle.reader.specs.declared.Reading.{Reading}
 use Rattle.reader.specs.declared.Reading.the-variants.{Text, Breaks}
 use Rattle.reader.specs.ReadOn.{Rooms, CountsWithin, CountsFit, readingOf}
 use Rattle.print.specs.Written.{Wrote}
-use Rattle.print.proofs.PrintLaws.{wrote-then}
+use Rattle.print.proofs.Wrote.{wrote-then}
 use Rattle.program.specs.Answered.{AnswerLeaves, answerLeft, answerLeaves, Limits}
+use Rattle.rules.specs.Graph.{Graph, graph}
+use Rattle.rules.specs.Hierarchy.{EdgeCosts, edgeCosts}
 
 -- ---- once the graph has been built
 
 module _ (N : Net) (b : BuildLeaves) (e : ℕ) (froms tos : List ℕ) (c : CustomiseLeaves) (before : List ℕ) where
-  pub customise-refused : (r : CustomiseAnswer) (q : Refusal) (up down : List ℕ) (k : ℕ) (after : List ℕ) (next : ℕ) → customiseLeft up down (customiseReply r) ≡ c
+  pub customise-refused : (r : CustomiseAnswer) (q : Refusal) (C : EdgeCosts) (k : ℕ) (after : List ℕ) (next : ℕ) → customiseLeft C (customiseReply r) ≡ c
       → r ≡ customise.Refused q → k ≡ refusalNumber q → Wrote before 0 (refusedLine k) after next
       → Wrote before 0 (answerCustomised N b e froms tos c) after next
   unfolding answerCustomised
-  customise-refused r q up down k after next f g h w =
-      let f′ : customiseLeft up down (refused (refusalNumber q) (refusalPlace q)) ≡ c = rw g at f in
+  customise-refused r q C k after next f g h w =
+      let f′ : customiseLeft C (refused (refusalNumber q) (refusalPlace q)) ≡ c = rw g at f in
       subst (λ x. Wrote before 0 (answerCustomised N b e froms tos x) after next) f′ (rw h at w)
 
-  pub customise-done : (r : CustomiseAnswer) (up down middle : List ℕ) (at : ℕ) (after : List ℕ) (next : ℕ) → customiseLeft up down (customiseReply r) ≡ c
+  pub customise-done : (r : CustomiseAnswer) (C : EdgeCosts) (middle : List ℕ) (at : ℕ) (after : List ℕ) (next : ℕ) → customiseLeft C (customiseReply r) ≡ c
       → r ≡ customise.Done → Wrote before 0 (edgesLine e) middle at
-      → Wrote middle at (replyLines N (b .rank) (b .first) (b .heads) up down froms tos) after next
+      → Wrote middle at (replyLines N (b .rank) (b .rows) C froms tos) after next
       → Wrote before 0 (answerCustomised N b e froms tos c) after next
   unfolding answerCustomised
-  customise-done r up down middle at after next f g v w =
-      let f′ : customiseLeft up down done ≡ c = rw g at f in
+  customise-done r C middle at after next f g v w =
+      let f′ : customiseLeft C done ≡ c = rw g at f in
       subst (λ x. Wrote before 0 (answerCustomised N b e froms tos x) after next) f′
-      (wrote-then before 0 (edgesLine e) middle at (replyLines N (b .rank) (b .first) (b .heads) up down froms tos) after next v w)
+      (wrote-then before 0 (edgesLine e) middle at (replyLines N (b .rank) (b .rows) C froms tos) after next v w)
 
 -- customise accepts the lists that it left
-pub done-passes : (N : Net) (rank first rowHeads up₀ down₀ : List ℕ) (r : CustomiseAnswer) (up down : List ℕ)
-    → customiseLeft up down (customiseReply r) ≡ customiseLeaves N rank first rowHeads up₀ down₀ → r ≡ customise.Done
-    → customiseChecks N rank first rowHeads up down ≡ passes
-done-passes N rank first rowHeads up₀ down₀ r up down f g =
-    let f′ : customiseLeft up down done ≡ customiseLeaves N rank first rowHeads up₀ down₀ = rw g at f in
-    still-passes (stands N rank first rowHeads up₀ down₀ up down (sym f′))
+pub done-passes : (N : Net) (rank : List ℕ) (G : Graph) (C₀ : EdgeCosts) (r : CustomiseAnswer) (C : EdgeCosts)
+    → customiseLeft C (customiseReply r) ≡ customiseLeaves N rank G C₀ → r ≡ customise.Done
+    → customiseChecks N rank G C ≡ passes
+done-passes N rank G C₀ r C f g =
+    let f′ : customiseLeft C done ≡ customiseLeaves N rank G C₀ = rw g at f in
+    still-passes (stands N rank G C₀ C (sym f′))
 
 -- ---- once the text has been read
 
 module _ (N : Net) (froms tos : List ℕ) (b : BuildLeaves) (before : List ℕ) where
-  pub build-refused : (r : BuildAnswer) (q : Refusal) (rank first rowHeads : List ℕ) (k : ℕ) (after : List ℕ) (next : ℕ) → buildLeft rank first rowHeads (buildReply r) ≡ b
+  pub build-refused : (r : BuildAnswer) (q : Refusal) (rank : List ℕ) (G : Graph) (k : ℕ) (after : List ℕ) (next : ℕ) → buildLeft rank G (buildReply r) ≡ b
       → r ≡ build.Refused q → k ≡ refusalNumber q → Wrote before 0 (refusedLine k) after next
       → Wrote before 0 (answerBuilt N froms tos b) after next
   unfolding answerBuilt
-  build-refused r q rank first rowHeads k after next f g h w =
-      let f′ : buildLeft rank first rowHeads (refused (refusalNumber q) (refusalPlace q)) ≡ b = rw g at f in
+  build-refused r q rank G k after next f g h w =
+      let f′ : buildLeft rank G (refused (refusalNumber q) (refusalPlace q)) ≡ b = rw g at f in
       subst (λ x. Wrote before 0 (answerBuilt N froms tos x) after next) f′ (rw h at w)
 
-  pub build-told : (r : BuildAnswer) (e : ℕ) (rank first rowHeads after : List ℕ) (next : ℕ) → buildLeft rank first rowHeads (buildReply r) ≡ b → r ≡ build.Edges e
-      → Wrote before 0 (answerCustomised N (buildLeft rank first rowHeads (edges e)) e froms tos (customiseLeaves N rank first rowHeads (noughts 4096) (noughts 4096))) after next
+  pub build-told : (r : BuildAnswer) (e : ℕ) (rank : List ℕ) (G : Graph) (after : List ℕ) (next : ℕ) → buildLeft rank G (buildReply r) ≡ b → r ≡ build.Edges e
+      → Wrote before 0 (answerCustomised N (buildLeft rank G (edges e)) e froms tos (customiseLeaves N rank G (edgeCosts (noughts 4096) (noughts 4096)))) after next
       → Wrote before 0 (answerBuilt N froms tos b) after next
   unfolding answerBuilt
-  build-told r e rank first rowHeads after next f g w =
-      let f′ : buildLeft rank first rowHeads (edges e) ≡ b = rw g at f in
+  build-told r e rank G after next f g w =
+      let f′ : buildLeft rank G (edges e) ≡ b = rw g at f in
       subst (λ x. Wrote before 0 (answerBuilt N froms tos x) after next) f′ w
 
 -- ---- parts of lists
@@ -83,16 +85,16 @@ take-noughts (suc n) zero h = absurd (omega arith)
 take-noughts (suc n) (suc m) h = ap (λ l. 0 ∷ l) (take-noughts n m (omega arith))
 
 -- the rooms of a graph of n junctions
-pub in-noughts : (N : Net) (tails heads order rank first rowHeads froms tos before after : List ℕ) (n next : ℕ) → n ≤ 256 → n ≡ length order
-    → rank ≡ take n (noughts 256) → first ≡ take (n + 1) (noughts 257) → rowHeads ≡ noughts 4096
-    → Wrote before 0 (answerBuilt N froms tos (buildLeaves tails heads order rank first rowHeads)) after next
-    → Wrote before 0 (answerBuilt N froms tos (buildLeaves tails heads order (noughts (length order)) (noughts (suc (length order))) (noughts 4096))) after next
-in-noughts N tails heads order rank first rowHeads froms tos before after n next h e er ef eh w =
+pub in-noughts : (N : Net) (tails heads order rank : List ℕ) (G : Graph) (froms tos before after : List ℕ) (n next : ℕ) → n ≤ 256 → n ≡ length order
+    → rank ≡ take n (noughts 256) → G ≡ graph (take (n + 1) (noughts 257)) (noughts 4096)
+    → Wrote before 0 (answerBuilt N froms tos (buildLeaves tails heads order rank G)) after next
+    → Wrote before 0 (answerBuilt N froms tos (buildLeaves tails heads order (noughts (length order)) (graph (noughts (suc (length order))) (noughts 4096)))) after next
+in-noughts N tails heads order rank G froms tos before after n next h e er eg w =
     let f : n + 1 ≡ suc n = omega arith in
     let er′ : rank ≡ noughts (length order) = er ∙ take-noughts n 256 h ∙ ap (λ k. noughts k) e in
-    let ef′ : first ≡ noughts (suc (length order)) =
-    ef ∙ ap (λ k. take k (noughts 257)) f ∙ take-noughts (suc n) 257 (omega arith) ∙ ap (λ k. noughts (suc k)) e in
-    rw (er′, ef′, eh) at w
+    let ef : take (n + 1) (noughts 257) ≡ noughts (suc (length order)) =
+    ap (λ k. take k (noughts 257)) f ∙ take-noughts (suc n) 257 (omega arith) ∙ ap (λ k. noughts (suc k)) e in
+    rw (er′, eg ∙ ap (λ l. graph l (noughts 4096)) ef) at w
 
 -- ---- the whole
 
@@ -148,7 +150,7 @@ module _ (c : Counts) (t h k o f g : List ℕ) (fit : CountsWithin c) (rooms : R
   order-fits = omega (arith, order-long, fit .junctions-fit)
 
   pub text-answered : (r : Reading) → r ≡ Text c → (input before after : List ℕ) (next : ℕ) → readingOf r t h k o f g ≡ readAll input
-      → Wrote before 0 (answerBuilt (net (take (c .arcs) t) (take (c .arcs) h) (take (c .arcs) k) (take (c .junctions) o)) (take (c .questions) f) (take (c .questions) g) (buildLeaves (take (c .arcs) t) (take (c .arcs) h) (take (c .junctions) o) (noughts (length (take (c .junctions) o))) (noughts (suc (length (take (c .junctions) o)))) (noughts 4096))) after next
+      → Wrote before 0 (answerBuilt (net (take (c .arcs) t) (take (c .arcs) h) (take (c .arcs) k) (take (c .junctions) o)) (take (c .questions) f) (take (c .questions) g) (buildLeaves (take (c .arcs) t) (take (c .arcs) h) (take (c .junctions) o) (noughts (length (take (c .junctions) o))) (graph (noughts (suc (length (take (c .junctions) o)))) (noughts 4096)))) after next
       → answerLeft next after ≡ answerLeaves input before
   unfolding answer answerRead
   text-answered r e input before after next s w =
@@ -157,6 +159,6 @@ module _ (c : Counts) (t h k o f g : List ℕ) (fit : CountsWithin c) (rooms : R
       let heads = take (c .arcs) h in
       let order = take (c .junctions) o in
       let v =
-      subst (λ n. Wrote before 0 (answerBuilt (net tails heads (take (c .arcs) k) order) (take (c .questions) f) (take (c .questions) g) (buildLeaves tails heads order (noughts n) (noughts (suc n)) (noughts 4096))) after next)
+      subst (λ n. Wrote before 0 (answerBuilt (net tails heads (take (c .arcs) k) order) (take (c .questions) f) (take (c .questions) g) (buildLeaves tails heads order (noughts n) (graph (noughts (suc n)) (noughts 4096)))) after next)
       order-long w in
       answer-left input before after next (rw b v)

@@ -1,7 +1,7 @@
 -- What a line says, read word by word, is what the definition says of its words. Assumes nothing.
 use Prim.Native.Nat.{ℕ, suc, _-_, _≤_}
 use mathlib.Core.Path.{_≡_, refl, sym, ap, _∙_}
-use mathlib.Core.Bool.{Bool, true, false, cond, _&&_}
+use mathlib.Core.Bool.{Bool, true, false, cond, _&&_, and-false}
 use mathlib.Core.List.{List, [], _∷_}
 use mathlib.Core.Logic.{_⊎_, inl, inr}
 use native.Mathlib.Omega.{arith}
@@ -15,7 +15,7 @@ use Rattle.text.specs.declared.Value.{Value}
 use Rattle.text.specs.declared.Value.the-variants.{Is, Not}
 use Rattle.text.specs.Bytes.{space, same, cutAt, words, isNumber, numberOf}
 use Rattle.text.specs.Program.{Line, comment, problem, arc, seat, question, other, word, isJunction, isCost, costOfWord, isComment, isProblem, isArc, isSeat, isQuestion, lineOf}
-use Rattle.text.proofs.WordLaws.{and-false, not-one}
+use Rattle.text.proofs.TakenFrom.{not-one}
 use Rattle.text.specs.ReadBack.{letterSaid, spSaid, numberSaid, junctionSaid, costSaid, wordsFrom, FirstWord, first, nothing, takenBack, firstSaid, takenFrom, last, next, problemSaid, arcSaid, seatSaid, questionSaid}
 
 -- ---- what was taken
