@@ -30,15 +30,16 @@
  *
  * Stack
  *   What a call needs besides the lists it keeps on the stack. On the lists that ask most of it, measured on x86-64: build
- *   80 KiB, customise 48 KiB, distance 80 KiB, route 1,632 KiB. Of route's, some 160 KiB are always used; the rest is for
- *   shortcuts made of shortcuts, nearly 400 bytes for each inside another. They nest 4,000 deep only if the order is as bad as can
+ *   112 KiB, customise 48 KiB, distance 96 KiB, route 1,440 KiB. Of route's, some 160 KiB are always used; the rest is for
+ *   shortcuts made of shortcuts, some 330 bytes for each inside another. They nest 4,000 deep only if the order is as bad as can
  *   be, but nothing forbids such an order: give the thread that calls route 2 MiB.
  *
  * Replies
  *   Each call returns the number of a refusal, 0 when it has accepted. It always writes *place: the place of the fault,
  *   which is 0 unless the table below names another, and 0 when accepted. Its other numbers it always writes, too; after a
  *   refusal they are 0.
- *   Whatever the lists hold, a call returns, and it writes nothing outside the lists and numbers that it is lent to write.
+ *   Whatever the lists hold, a call returns, if its thread has the stack named above, and it writes nothing outside the
+ *   lists and numbers that it is lent to write. With less stack the system ends the program: no reply tells of it.
  *
  * Refusals. A call makes its checks in the order given with it; the first that fails decides, and the lowest fault of a
  * kind gives the place.
@@ -48,8 +49,8 @@
  *    4  an order entry is n or more, or was seen earlier; the place is the position
  *    5  rank isn't n long, or first isn't n + 1 long
  *    6  row_heads is shorter than E
- *    7  rank, first and row_heads aren't a graph that build could have written for this order
- *       (precisely: aren't a hierarchy in the sense of document 01; a few more edges than build would make are allowed)
+ *    7  rank, first and row_heads aren't a hierarchy in the sense of document 01, as build writes one for this order
+ *       (a hierarchy may have more edges than build would make, however many; E is then its own first[n])
  *    8  an arc with unequal ends has no edge; the place is the arc
  *    9  an arc cost is 0, or over 500,000 and not closed; the place is the arc
  *   10  up or down is shorter than E
@@ -82,7 +83,8 @@
  *                                 up, 1, down, 1, 1, 0, route, 1, &place, &distance, &arcs);
  *   // now refused is 0, distance is 150, arcs is 1, route[0] is 1
  *
- * A longer one is examples/c/example.c. Link with libtablet.a; `make library` puts it and this file into target/.
+ * A longer one is examples/c/example.c. Link with libtablet.a; `make library` puts it and this file into target/. The
+ * archive calls one function from outside, memset; any C library has it.
  */
 #ifndef GRIEZMULD_H
 #define GRIEZMULD_H

@@ -5,24 +5,28 @@ ghost use mathlib.Core.Path.{_≡_};
 ghost use Rattle.rules.specs.Net.{net};
 ghost use Rattle.rules.specs.Replies.{buildReply, customiseReply, distanceReply, routeReply};
 ghost use Rattle.rules.specs.Calls.{buildLeft, buildLeaves, customiseLeft, customiseLeaves, distanceLeft, distanceLeaves, routeLeft, routeLeaves};
+ghost use Rattle.rules.specs.Graph.{graph};
+ghost use Rattle.rules.specs.Hierarchy.{edgeCosts};
+use checks::check_build;
 use checks::check_customise;
 use checks::check_distance;
+use checks::check_route;
 use customise::customise_costs;
 use distance::ask;
+use drive::route_between;
 use graph::Room;
-use graph::clear;
 use graph::contract;
 use lists::Check;
-use lists::check_build;
+use lists::fill;
 use lists::fill_rank;
 use lists::position_of;
 use rules::BuildAnswer;
 use rules::CustomiseAnswer;
 use rules::DistanceAnswer;
 use rules::Junction;
+use rules::NONE;
 use rules::Refusal;
 use rules::RouteAnswer;
-use unpack::route_between;
 
 // Roads and order to the shortcut graph: rank, first and row_heads are filled, and E is told.
 pub fn build(
@@ -33,14 +37,14 @@ pub fn build(
     first: &mut [u32],
     row_heads: &mut [u32],
 ) -> BuildAnswer
-    ensures { λ r. ⌜ buildLeft (now (rank .exit)) (now (first .exit)) (now («row_heads» .exit)) (buildReply r) ≡ buildLeaves (now (tails .entry)) (now (heads .entry)) (now (order .entry)) (now (rank .entry)) (now (first .entry)) (now («row_heads» .entry)) ⌝ }
+    ensures { λ r. ⌜ buildLeft (now (rank .exit)) (graph (now (first .exit)) (now («row_heads» .exit))) (buildReply r) ≡ buildLeaves (now (tails .entry)) (now (heads .entry)) (now (order .entry)) (now (rank .entry)) (graph (now (first .entry)) (now («row_heads» .entry))) ⌝ }
 {
     if let Check::Fails(refusal) = check_build(tails, heads, order, rank, first) {
         return BuildAnswer::Refused(refusal);
     }
     fill_rank(order, rank);
-    let Room::Next(e) = contract(order, tails, heads, rank, first, row_heads) else {
-        clear(rank, 0);
+    let Room::Next(e) = contract(tails, heads, order, rank, first, row_heads) else {
+        fill(rank, 0, 0);
         return BuildAnswer::Refused(Refusal::HeadsRoom);
     };
     BuildAnswer::Edges(e)
@@ -58,7 +62,7 @@ pub fn customise(
     up: &mut [u32],
     down: &mut [u32],
 ) -> CustomiseAnswer
-    ensures { λ r. ⌜ customiseLeft (now (up .exit)) (now (down .exit)) (customiseReply r) ≡ customiseLeaves (net (now (tails .entry)) (now (heads .entry)) (now (costs .entry)) (now (order .entry))) (now (rank .entry)) (now (first .entry)) (now («row_heads» .entry)) (now (up .entry)) (now (down .entry)) ⌝ }
+    ensures { λ r. ⌜ customiseLeft (edgeCosts (now (up .exit)) (now (down .exit))) (customiseReply r) ≡ customiseLeaves (net (now (tails .entry)) (now (heads .entry)) (now (costs .entry)) (now (order .entry))) (now (rank .entry)) (graph (now (first .entry)) (now («row_heads» .entry))) (edgeCosts (now (up .entry)) (now (down .entry))) ⌝ }
 {
     if let Check::Fails(refusal) = check_customise(
         tails,
@@ -88,7 +92,7 @@ pub fn distance<'a>(
     from: Junction,
     to: Junction,
 ) -> DistanceAnswer
-    ensures { λ r. ⌜ distanceLeft (distanceReply r) ≡ distanceLeaves (now (order .entry)) (now (rank .entry)) (now (first .entry)) (now («row_heads» .entry)) (now (up .entry)) (now (down .entry)) (from .0) (to .0) ⌝ }
+    ensures { λ r. ⌜ distanceLeft (distanceReply r) ≡ distanceLeaves (now (order .entry)) (now (rank .entry)) (graph (now (first .entry)) (now («row_heads» .entry))) (edgeCosts (now (up .entry)) (now (down .entry))) (from .0) (to .0) ⌝ }
 {
     if let Check::Fails(refusal) = check_distance(
         order,
@@ -105,7 +109,7 @@ pub fn distance<'a>(
     let s = position_of(rank, from);
     let t = position_of(rank, to);
     let d = ask(first, row_heads, up, down, s, t);
-    if d == 18446744073709551615 {
+    if d == NONE {
         return DistanceAnswer::NoWalk;
     }
     DistanceAnswer::Tenths(d)
@@ -126,9 +130,9 @@ pub fn route<'a>(
     to: Junction,
     list: &mut [u32],
 ) -> RouteAnswer
-    ensures { λ r. ⌜ routeLeft (now (list .exit)) (routeReply r) ≡ routeLeaves (net (now (tails .entry)) (now (heads .entry)) (now (costs .entry)) (now (order .entry))) (now (rank .entry)) (now (first .entry)) (now («row_heads» .entry)) (now (up .entry)) (now (down .entry)) (from .0) (to .0) (now (list .entry)) ⌝ }
+    ensures { λ r. ⌜ routeLeft (now (list .exit)) (routeReply r) ≡ routeLeaves (net (now (tails .entry)) (now (heads .entry)) (now (costs .entry)) (now (order .entry))) (now (rank .entry)) (graph (now (first .entry)) (now («row_heads» .entry))) (edgeCosts (now (up .entry)) (now (down .entry))) (from .0) (to .0) (now (list .entry)) ⌝ }
 {
-    if let Check::Fails(refusal) = check_customise(
+    if let Check::Fails(refusal) = check_route(
         tails,
         heads,
         costs,
@@ -138,6 +142,8 @@ pub fn route<'a>(
         row_heads,
         up,
         down,
+        from,
+        to,
     ) {
         return RouteAnswer::Refused(refusal);
     }

@@ -5,14 +5,16 @@ use mathlib.Core.List.{List}
 use Rattle.rules.specs.Replies.{Reply, numberTold, placeTold, edgesTold, distanceTold, arcsTold}
 use Rattle.rules.specs.Calls.{BuildLeaves, buildLeft, CustomiseLeaves, customiseLeft, DistanceLeaves, distanceLeft, RouteLeaves, routeLeft}
 use Rattle.tablet.specs.Numbers.{buildNumbers, buildTold, customiseNumbers, customiseTold, distanceNumbers, distanceToldOf, routeNumbers, routeTold}
+use Rattle.rules.specs.Graph.{Graph}
+use Rattle.rules.specs.Hierarchy.{EdgeCosts}
 
-pub told-build : (r : Reply) (n p e : ℕ) (rank first heads : List ℕ) (l : BuildLeaves) → n ≡ numberTold r → p ≡ placeTold r → e ≡ edgesTold r
-    → buildLeft rank first heads r ≡ l → buildNumbers n p e rank first heads ≡ buildTold l
-told-build r n p e rank first heads l en ep ee el = rw (en, ep, ee) (ap buildTold el)
+pub told-build : (r : Reply) (n p e : ℕ) (rank : List ℕ) (G : Graph) (l : BuildLeaves) → n ≡ numberTold r → p ≡ placeTold r → e ≡ edgesTold r
+    → buildLeft rank G r ≡ l → buildNumbers n p e rank G ≡ buildTold l
+told-build r n p e rank G l en ep ee el = rw (en, ep, ee) (ap buildTold el)
 
-pub told-customise : (r : Reply) (n p : ℕ) (up down : List ℕ) (l : CustomiseLeaves) → n ≡ numberTold r → p ≡ placeTold r
-    → customiseLeft up down r ≡ l → customiseNumbers n p up down ≡ customiseTold l
-told-customise r n p up down l en ep el = rw (en, ep) (ap customiseTold el)
+pub told-customise : (r : Reply) (n p : ℕ) (C : EdgeCosts) (l : CustomiseLeaves) → n ≡ numberTold r → p ≡ placeTold r
+    → customiseLeft C r ≡ l → customiseNumbers n p C ≡ customiseTold l
+told-customise r n p C l en ep el = rw (en, ep) (ap customiseTold el)
 
 pub told-distance : (r : Reply) (n p d : ℕ) (l : DistanceLeaves) → n ≡ numberTold r → p ≡ placeTold r → d ≡ distanceTold r
     → distanceLeft r ≡ l → distanceNumbers n p d ≡ distanceToldOf l

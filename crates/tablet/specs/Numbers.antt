@@ -2,6 +2,8 @@
 -- the distance 18,446,744,073,709,551,615. With every lent list this is all that a call leaves. Assumes nothing.
 use Prim.Native.Nat.{ℕ}
 use mathlib.Core.List.{List}
+use Rattle.rules.specs.Graph.{Graph}
+use Rattle.rules.specs.Hierarchy.{EdgeCosts}
 use Rattle.rules.specs.Replies.{numberTold, placeTold, edgesTold, distanceTold, arcsTold}
 use Rattle.rules.specs.Calls.{BuildLeaves, CustomiseLeaves, DistanceLeaves, RouteLeaves}
 
@@ -10,33 +12,31 @@ pub record BuildNumbers : Type 0 where
   pub place : ℕ
   pub edges : ℕ
   pub rank : List ℕ
-  pub first : List ℕ
-  pub heads : List ℕ
+  pub rows : Graph
 
-abbrev pub buildNumbers : ℕ → ℕ → ℕ → List ℕ → List ℕ → List ℕ → BuildNumbers
-buildNumbers n p e rank first heads = record { number = n; place = p; edges = e; rank = rank; first = first; heads = heads }
+abbrev pub buildNumbers : (number place edges : ℕ) (rank : List ℕ) (G : Graph) → BuildNumbers
+buildNumbers n p e rank G = record { number = n; place = p; edges = e; rank = rank; rows = G }
 
 abbrev pub buildTold : BuildLeaves → BuildNumbers
-buildTold l = buildNumbers (numberTold (l .reply)) (placeTold (l .reply)) (edgesTold (l .reply)) (l .rank) (l .first) (l .heads)
+buildTold l = buildNumbers (numberTold (l .reply)) (placeTold (l .reply)) (edgesTold (l .reply)) (l .rank) (l .rows)
 
 pub record CustomiseNumbers : Type 0 where
   pub number : ℕ
   pub place : ℕ
-  pub up : List ℕ
-  pub down : List ℕ
+  pub costs : EdgeCosts
 
-abbrev pub customiseNumbers : ℕ → ℕ → List ℕ → List ℕ → CustomiseNumbers
-customiseNumbers n p up down = record { number = n; place = p; up = up; down = down }
+abbrev pub customiseNumbers : (number place : ℕ) (C : EdgeCosts) → CustomiseNumbers
+customiseNumbers n p C = record { number = n; place = p; costs = C }
 
 abbrev pub customiseTold : CustomiseLeaves → CustomiseNumbers
-customiseTold l = customiseNumbers (numberTold (l .reply)) (placeTold (l .reply)) (l .up) (l .down)
+customiseTold l = customiseNumbers (numberTold (l .reply)) (placeTold (l .reply)) (l .costs)
 
 pub record DistanceNumbers : Type 0 where
   pub number : ℕ
   pub place : ℕ
   pub distance : ℕ
 
-abbrev pub distanceNumbers : ℕ → ℕ → ℕ → DistanceNumbers
+abbrev pub distanceNumbers : (number place distance : ℕ) → DistanceNumbers
 distanceNumbers n p d = record { number = n; place = p; distance = d }
 
 abbrev pub distanceToldOf : DistanceLeaves → DistanceNumbers
@@ -49,7 +49,7 @@ pub record RouteNumbers : Type 0 where
   pub arcs : ℕ
   pub route : List ℕ
 
-abbrev pub routeNumbers : ℕ → ℕ → ℕ → ℕ → List ℕ → RouteNumbers
+abbrev pub routeNumbers : (number place distance arcs : ℕ) (route : List ℕ) → RouteNumbers
 routeNumbers n p d k route = record { number = n; place = p; distance = d; arcs = k; route = route }
 
 abbrev pub routeTold : RouteLeaves → RouteNumbers

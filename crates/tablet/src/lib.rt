@@ -3,6 +3,8 @@
 ghost use mathlib.Core.Path.{_≡_};
 ghost use Rattle.rules.specs.Net.{net};
 ghost use Rattle.rules.specs.Calls.{buildLeaves, customiseLeaves, distanceLeaves, routeLeaves};
+ghost use Rattle.rules.specs.Graph.{graph};
+ghost use Rattle.rules.specs.Hierarchy.{edgeCosts};
 ghost use Rattle.tablet.specs.Numbers.{buildNumbers, buildTold, customiseNumbers, customiseTold, distanceNumbers, distanceToldOf, routeNumbers, routeTold};
 use griezmuld::build;
 use griezmuld::customise;
@@ -22,12 +24,12 @@ pub extern "C" fn griezmuld_build(
     place: &mut u64,
     edges: &mut u64,
 ) -> u32
-    ensures { λ r. ⌜ buildNumbers r (now (place .exit)) (now (edges .exit)) (now (rank .exit)) (now (first .exit)) (now («row_heads» .exit)) ≡ buildTold (buildLeaves (now (tails .entry)) (now (heads .entry)) (now (order .entry)) (now (rank .entry)) (now (first .entry)) (now («row_heads» .entry))) ⌝ }
+    ensures { λ r. ⌜ buildNumbers r (now (place .exit)) (now (edges .exit)) (now (rank .exit)) (graph (now (first .exit)) (now («row_heads» .exit))) ≡ buildTold (buildLeaves (now (tails .entry)) (now (heads .entry)) (now (order .entry)) (now (rank .entry)) (graph (now (first .entry)) (now («row_heads» .entry)))) ⌝ }
 {
-    let answer = build(tails, heads, order, rank, first, row_heads);
-    *place = answer.place() as u64;
-    *edges = answer.edges() as u64;
-    answer.number()
+    let built = build(tails, heads, order, rank, first, row_heads);
+    *place = built.place() as u64;
+    *edges = built.edges() as u64;
+    built.number()
 }
 
 // Costs to shortcut costs.
@@ -44,11 +46,11 @@ pub extern "C" fn griezmuld_customise(
     down: &mut [u32],
     place: &mut u64,
 ) -> u32
-    ensures { λ r. ⌜ customiseNumbers r (now (place .exit)) (now (up .exit)) (now (down .exit)) ≡ customiseTold (customiseLeaves (net (now (tails .entry)) (now (heads .entry)) (now (costs .entry)) (now (order .entry))) (now (rank .entry)) (now (first .entry)) (now («row_heads» .entry)) (now (up .entry)) (now (down .entry))) ⌝ }
+    ensures { λ r. ⌜ customiseNumbers r (now (place .exit)) (edgeCosts (now (up .exit)) (now (down .exit))) ≡ customiseTold (customiseLeaves (net (now (tails .entry)) (now (heads .entry)) (now (costs .entry)) (now (order .entry))) (now (rank .entry)) (graph (now (first .entry)) (now («row_heads» .entry))) (edgeCosts (now (up .entry)) (now (down .entry)))) ⌝ }
 {
-    let answer = customise(tails, heads, costs, order, rank, first, row_heads, up, down);
-    *place = answer.place() as u64;
-    answer.number()
+    let customised = customise(tails, heads, costs, order, rank, first, row_heads, up, down);
+    *place = customised.place() as u64;
+    customised.number()
 }
 
 // The distance between two junctions.
@@ -65,9 +67,9 @@ pub extern "C" fn griezmuld_distance<'a>(
     place: &mut u64,
     distance_told: &mut u64,
 ) -> u32
-    ensures { λ r. ⌜ distanceNumbers r (now (place .exit)) (now («distance_told» .exit)) ≡ distanceToldOf (distanceLeaves (now (order .entry)) (now (rank .entry)) (now (first .entry)) (now («row_heads» .entry)) (now (up .entry)) (now (down .entry)) from to) ⌝ }
+    ensures { λ r. ⌜ distanceNumbers r (now (place .exit)) (now («distance_told» .exit)) ≡ distanceToldOf (distanceLeaves (now (order .entry)) (now (rank .entry)) (graph (now (first .entry)) (now («row_heads» .entry))) (edgeCosts (now (up .entry)) (now (down .entry))) from to) ⌝ }
 {
-    let answer = distance(
+    let found = distance(
         order,
         rank,
         first,
@@ -77,9 +79,9 @@ pub extern "C" fn griezmuld_distance<'a>(
         Junction(from),
         Junction(to),
     );
-    *place = answer.place() as u64;
-    *distance_told = answer.distance();
-    answer.number()
+    *place = found.place() as u64;
+    *distance_told = found.distance();
+    found.number()
 }
 
 // The distance and the route between two junctions.
@@ -101,9 +103,9 @@ pub extern "C" fn griezmuld_route<'a>(
     distance_told: &mut u64,
     arcs_told: &mut u64,
 ) -> u32
-    ensures { λ r. ⌜ routeNumbers r (now (place .exit)) (now («distance_told» .exit)) (now («arcs_told» .exit)) (now (list .exit)) ≡ routeTold (routeLeaves (net (now (tails .entry)) (now (heads .entry)) (now (costs .entry)) (now (order .entry))) (now (rank .entry)) (now (first .entry)) (now («row_heads» .entry)) (now (up .entry)) (now (down .entry)) from to (now (list .entry))) ⌝ }
+    ensures { λ r. ⌜ routeNumbers r (now (place .exit)) (now («distance_told» .exit)) (now («arcs_told» .exit)) (now (list .exit)) ≡ routeTold (routeLeaves (net (now (tails .entry)) (now (heads .entry)) (now (costs .entry)) (now (order .entry))) (now (rank .entry)) (graph (now (first .entry)) (now («row_heads» .entry))) (edgeCosts (now (up .entry)) (now (down .entry))) from to (now (list .entry))) ⌝ }
 {
-    let answer = route(
+    let driven = route(
         tails,
         heads,
         costs,
@@ -117,8 +119,8 @@ pub extern "C" fn griezmuld_route<'a>(
         Junction(to),
         list,
     );
-    *place = answer.place() as u64;
-    *distance_told = answer.distance();
-    *arcs_told = answer.arcs() as u64;
-    answer.number()
+    *place = driven.place() as u64;
+    *distance_told = driven.distance();
+    *arcs_told = driven.arcs() as u64;
+    driven.number()
 }

@@ -4,7 +4,6 @@ use Rattle.tablet.proofs.Told.{told-distance}
 use Rattle.rules.specs.Replies.{distanceReply}
 use Rattle.tablet.proofs.griezmuld_distance.Statement.{statement}
 use Rattle.tablet.proofs.griezmuld_distance.Tie as tie
-use Rattle.rules.proofs.DistanceAnswer.distance.Reads as DistanceAnswer-distance-reads
 
 returns : tie.Need-returns
 returns c = told-distance (distanceReply (c .before .before .before .distance .result)) _ _ _ _ (c .number .ensures) (c .before .before .place .ensures) (c .before .distance2 .ensures) (c .before .before .before .distance .ensures)

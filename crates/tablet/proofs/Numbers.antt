@@ -2,30 +2,29 @@
 use Prim.Native.Nat.{ℕ}
 use mathlib.Core.Path.{_≡_, sym, ap, _∙_}
 use mathlib.Core.List.{List}
+use Rattle.rules.specs.Graph.{Graph}
+use Rattle.rules.specs.Hierarchy.{EdgeCosts}
 use Rattle.tablet.specs.Numbers.{BuildNumbers, buildNumbers, CustomiseNumbers, customiseNumbers, DistanceNumbers, distanceNumbers, RouteNumbers, routeNumbers}
 
-pub build-once : {n n′ p p′ e e′ : ℕ} {rank rank′ first first′ heads heads′ : List ℕ} (told : BuildNumbers)
-    → buildNumbers n p e rank first heads ≡ told → buildNumbers n′ p′ e′ rank′ first′ heads′ ≡ told
-    → (n ≡ n′) × (p ≡ p′) × (e ≡ e′) × (rank ≡ rank′) × (first ≡ first′) × (heads ≡ heads′)
+pub build-once : {n n′ p p′ e e′ : ℕ} {rank rank′ : List ℕ} {G G′ : Graph} (told : BuildNumbers)
+    → buildNumbers n p e rank G ≡ told → buildNumbers n′ p′ e′ rank′ G′ ≡ told
+    → (n ≡ n′) × (p ≡ p′) × (e ≡ e′) × (rank ≡ rank′) × (G ≡ G′)
 build-once told a b =
     let c = a ∙ sym b in (
       ap (λ (t : BuildNumbers). t .number) c,
       ap (λ (t : BuildNumbers). t .place) c,
       ap (λ (t : BuildNumbers). t .edges) c,
       ap (λ (t : BuildNumbers). t .rank) c,
-      ap (λ (t : BuildNumbers). t .first) c,
-      ap (λ (t : BuildNumbers). t .heads) c,
+      ap (λ (t : BuildNumbers). t .rows) c,
     )
 
-pub customise-once : {n n′ p p′ : ℕ} {up up′ down down′ : List ℕ} (told : CustomiseNumbers)
-    → customiseNumbers n p up down ≡ told → customiseNumbers n′ p′ up′ down′ ≡ told
-    → (n ≡ n′) × (p ≡ p′) × (up ≡ up′) × (down ≡ down′)
+pub customise-once : {n n′ p p′ : ℕ} {C C′ : EdgeCosts} (told : CustomiseNumbers)
+    → customiseNumbers n p C ≡ told → customiseNumbers n′ p′ C′ ≡ told → (n ≡ n′) × (p ≡ p′) × (C ≡ C′)
 customise-once told a b =
     let c = a ∙ sym b in (
       ap (λ (t : CustomiseNumbers). t .number) c,
       ap (λ (t : CustomiseNumbers). t .place) c,
-      ap (λ (t : CustomiseNumbers). t .up) c,
-      ap (λ (t : CustomiseNumbers). t .down) c,
+      ap (λ (t : CustomiseNumbers). t .costs) c,
     )
 
 pub distance-once : {n n′ p p′ d d′ : ℕ} (told : DistanceNumbers) → distanceNumbers n p d ≡ told → distanceNumbers n′ p′ d′ ≡ told
