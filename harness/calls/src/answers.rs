@@ -1,6 +1,6 @@
 //! The calls' answers as enums.
 
-use crate::told::{BuildTold, CustomiseTold, DistanceTold, RouteTold};
+use slices::Told;
 
 /// Why a call refuses, with the place where that isn't always 0.
 #[derive(Clone, Copy, Debug, PartialEq, Eq)]
@@ -106,8 +106,8 @@ pub enum Route {
     Refused(Refusal),
 }
 
-impl From<BuildTold> for Built {
-    fn from(told: BuildTold) -> Built {
+impl From<Told> for Built {
+    fn from(told: Told) -> Built {
         match told.number {
             0 => Built::Edges(told.edges),
             number => Built::Refused(Refusal::new(number, told.place)),
@@ -115,8 +115,8 @@ impl From<BuildTold> for Built {
     }
 }
 
-impl From<CustomiseTold> for Customised {
-    fn from(told: CustomiseTold) -> Customised {
+impl From<Told> for Customised {
+    fn from(told: Told) -> Customised {
         match told.number {
             0 => Customised::Done,
             number => Customised::Refused(Refusal::new(number, told.place)),
@@ -124,8 +124,8 @@ impl From<CustomiseTold> for Customised {
     }
 }
 
-impl From<DistanceTold> for Distance {
-    fn from(told: DistanceTold) -> Distance {
+impl From<Told> for Distance {
+    fn from(told: Told) -> Distance {
         match (told.number, told.distance) {
             (0, u64::MAX) => Distance::NoWalk,
             (0, distance) => Distance::Tenths(distance),
@@ -134,8 +134,8 @@ impl From<DistanceTold> for Distance {
     }
 }
 
-impl From<RouteTold> for Route {
-    fn from(told: RouteTold) -> Route {
+impl From<Told> for Route {
+    fn from(told: Told) -> Route {
         match (told.number, told.distance) {
             (0, u64::MAX) => Route::NoWalk,
             (0, distance) => Route::Drive {

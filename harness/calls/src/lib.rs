@@ -4,13 +4,16 @@
 //! calls with the bare numbers, for the runs that compare every one of them.
 
 mod answers;
+#[cfg(not(feature = "standin"))]
 mod foreign;
+#[cfg(not(feature = "standin"))]
 pub mod told;
 
 pub use answers::{Built, Customised, Distance, Refusal, Route};
+#[cfg(feature = "standin")]
+pub use standin as told;
 
-#[cfg(any(feature = "standin", feature = "standin-route"))]
-use standin as _;
+use slices::{Arcs, CostRoom, Costs, Graph, GraphRoom, Roads};
 
 /// "CLOSED": the cost of a closed arc or edge, and what fills a route list.
 pub const CLOSED: u32 = u32::MAX;
@@ -26,9 +29,7 @@ pub fn linked() -> String {
             format!("the stand-in with planted fault {fault} ({name})")
         }
     };
-    #[cfg(feature = "standin-route")]
-    return format!("{}, but the stand-in for route", env!("GRIEZMULD_LINKED"));
-    #[cfg(not(any(feature = "standin", feature = "standin-route")))]
+    #[cfg(not(feature = "standin"))]
     env!("GRIEZMULD_LINKED").to_string()
 }
 
@@ -40,76 +41,32 @@ pub fn faults() -> &'static [&'static str] {
     &[]
 }
 
-/// Whether the library's archive was linked, for route or without it.
-pub const ARCHIVE: bool = cfg!(not(feature = "standin"));
+/// Whether the library itself was linked.
+pub const LIBRARY: bool = cfg!(not(feature = "standin"));
 
-/// Whether the library itself was linked, and for all four calls.
-pub const LIBRARY: bool = cfg!(not(any(feature = "standin", feature = "standin-route")));
-
-/// Builds the shortcut graph into `rank` (n long), `first` (n + 1 long) and `row_heads`.
-pub fn build(
-    tails: &[u32],
-    heads: &[u32],
-    order: &[u32],
-    rank: &mut [u32],
-    first: &mut [u32],
-    row_heads: &mut [u32],
-) -> Built {
-    Built::from(told::build(tails, heads, order, rank, first, row_heads))
+/// Builds the shortcut graph into its room: `rank` is n long, `first` n + 1.
+pub fn build(arcs: Arcs, order: &[u32], room: GraphRoom) -> Built {
+    Built::from(told::build(arcs, order, room))
 }
 
 /// Puts costs onto the graph.
-#[allow(clippy::too_many_arguments)]
-pub fn customise(
-    tails: &[u32],
-    heads: &[u32],
-    costs: &[u32],
-    order: &[u32],
-    rank: &[u32],
-    first: &[u32],
-    row_heads: &[u32],
-    up: &mut [u32],
-    down: &mut [u32],
-) -> Customised {
-    Customised::from(told::customise(
-        tails, heads, costs, order, rank, first, row_heads, up, down,
-    ))
+pub fn customise(roads: Roads, graph: Graph, room: CostRoom) -> Customised {
+    Customised::from(told::customise(roads, graph, room))
 }
 
 /// The distance between two junctions.
-#[allow(clippy::too_many_arguments)]
-pub fn distance(
-    order: &[u32],
-    rank: &[u32],
-    first: &[u32],
-    row_heads: &[u32],
-    up: &[u32],
-    down: &[u32],
-    from: u32,
-    to: u32,
-) -> Distance {
-    Distance::from(told::distance(
-        order, rank, first, row_heads, up, down, from, to,
-    ))
+pub fn distance(graph: Graph, costs: Costs, from: u32, to: u32) -> Distance {
+    Distance::from(told::distance(graph, costs, from, to))
 }
 
 /// The route between two junctions.
-#[allow(clippy::too_many_arguments)]
 pub fn route(
-    tails: &[u32],
-    heads: &[u32],
-    costs: &[u32],
-    order: &[u32],
-    rank: &[u32],
-    first: &[u32],
-    row_heads: &[u32],
-    up: &[u32],
-    down: &[u32],
+    roads: Roads,
+    graph: Graph,
+    costs: Costs,
     from: u32,
     to: u32,
     route: &mut [u32],
 ) -> Route {
-    Route::from(told::route(
-        tails, heads, costs, order, rank, first, row_heads, up, down, from, to, route,
-    ))
+    Route::from(told::route(roads, graph, costs, from, to, route))
 }

@@ -57,6 +57,15 @@ pub struct Rows<'a> {
     pub row_heads: &'a [u32],
 }
 
+/// What customise, distance and route get of the costs on the graph.
+#[derive(Clone, Copy)]
+pub struct Costs<'a> {
+    /// The up list.
+    pub up: &'a [u32],
+    /// The down list.
+    pub down: &'a [u32],
+}
+
 // ---- build
 
 /// What build leaves.
@@ -84,14 +93,12 @@ impl BuildLeaves {
 }
 
 /// "Build: 1, 2, 3, 4, 5, 6; it gets no costs."
-pub fn build(
-    tails: &[u32],
-    heads: &[u32],
-    order: &[u32],
-    rank: &[u32],
-    first: &[u32],
-    row_heads: &[u32],
-) -> BuildLeaves {
+pub fn build(tails: &[u32], heads: &[u32], order: &[u32], room: Rows) -> BuildLeaves {
+    let Rows {
+        rank,
+        first,
+        row_heads,
+    } = room;
     let n = order.len();
     let refused = refusal(1, refusals::junctions(n))
         .or_else(|| refusal(2, refusals::arc_lists(&[tails.len(), heads.len()])))
@@ -151,9 +158,20 @@ pub struct CustomiseLeaves {
     pub down: Vec<u32>,
 }
 
+impl CustomiseLeaves {
+    /// The lists, as distance and route get them.
+    pub fn held(&self) -> Costs<'_> {
+        Costs {
+            up: &self.up,
+            down: &self.down,
+        }
+    }
+}
+
 /// "Customise: 1, 2, 3, 4, 7, 8, 9, 10."
-pub fn customise(map: Roadmap, rows: Rows, up: &[u32], down: &[u32]) -> CustomiseLeaves {
-    if let Some(refused) = customise_refusal(map, rows, up, down) {
+pub fn customise(map: Roadmap, rows: Rows, room: Costs) -> CustomiseLeaves {
+    let Costs { up, down } = room;
+    if let Some(refused) = customise_refusal(map, rows, room) {
         return CustomiseLeaves {
             told: refused.into(),
             up: up.to_vec(),
@@ -173,7 +191,7 @@ pub fn customise(map: Roadmap, rows: Rows, up: &[u32], down: &[u32]) -> Customis
     }
 }
 
-fn customise_refusal(map: Roadmap, rows: Rows, up: &[u32], down: &[u32]) -> Option<Refusal> {
+fn customise_refusal(map: Roadmap, rows: Rows, held: Costs) -> Option<Refusal> {
     let Roadmap {
         tails,
         heads,
@@ -197,13 +215,16 @@ fn customise_refusal(map: Roadmap, rows: Rows, up: &[u32], down: &[u32]) -> Opti
             refusal(8, fault)
         })
         .or_else(|| refusal(9, refusals::arc_costs(costs)))
-        .or_else(|| refusal(10, refusals::cost_lists(first[n] as usize, up, down)))
+        .or_else(|| {
+            let fault = refusals::cost_lists(first[n] as usize, held.up, held.down);
+            refusal(10, fault)
+        })
 }
 
 // ---- distance
 
 /// "Distance: 1, 4, 7, 10, 11."
-pub fn distance(order: &[u32], rows: Rows, up: &[u32], down: &[u32], from: u32, to: u32) -> Told {
+pub fn distance(order: &[u32], rows: Rows, costs: Costs, from: u32, to: u32) -> Told {
     let n = order.len();
     let refused = refusal(1, refusals::junctions(n))
         .or_else(|| refusal(4, refusals::order_entries(order)))
@@ -211,11 +232,14 @@ pub fn distance(order: &[u32], rows: Rows, up: &[u32], down: &[u32], from: u32, 
             let fault = refusals::hierarchy(order, rows.rank, rows.first, rows.row_heads);
             refusal(7, fault)
         })
-        .or_else(|| refusal(10, refusals::cost_lists(rows.first[n] as usize, up, down)))
+        .or_else(|| {
+            let fault = refusals::cost_lists(rows.first[n] as usize, costs.up, costs.down);
+            refusal(10, fault)
+        })
         .or_else(|| refusal(11, refusals::start_or_target(n, from, to)));
     match refused {
         Some(refused) => refused.into(),
-        None => Asked::of(order, rows, up, down).distance(from, to),
+        None => Asked::of(order, rows, costs).distance(from, to),
     }
 }
 
@@ -234,13 +258,12 @@ pub struct RouteLeaves {
 pub fn route(
     map: Roadmap,
     rows: Rows,
-    up: &[u32],
-    down: &[u32],
+    costs: Costs,
     from: u32,
     to: u32,
     route: &[u32],
 ) -> RouteLeaves {
-    let refused = customise_refusal(map, rows, up, down).or_else(|| {
+    let refused = customise_refusal(map, rows, costs).or_else(|| {
         let fault = refusals::start_or_target(map.order.len(), from, to);
         refusal(11, fault)
     });
@@ -251,7 +274,7 @@ pub fn route(
         };
     }
     let roads = Roads::of(map.tails, map.heads, map.costs);
-    let mut asked = Asked::of(map.order, rows, up, down);
+    let mut asked = Asked::of(map.order, rows, costs);
     let drive = asked.drive(&roads, from, to, route.len());
     drive.into_room(route.len())
 }
@@ -267,15 +290,15 @@ pub struct Asked<'a> {
 
 impl<'a> Asked<'a> {
     /// The lists, which must have passed.
-    pub fn of(order: &'a [u32], rows: Rows<'a>, up: &'a [u32], down: &'a [u32]) -> Asked<'a> {
+    pub fn of(order: &'a [u32], rows: Rows<'a>, costs: Costs<'a>) -> Asked<'a> {
         let n = order.len();
         Asked {
             order,
             rank: rows.rank,
             held: Held {
                 graph: Graph::of_lists(n, rows.first, rows.row_heads),
-                up,
-                down,
+                up: costs.up,
+                down: costs.down,
             },
             from_start: vec![None; n],
             from_target: vec![None; n],
@@ -392,7 +415,12 @@ mod tests {
 
     #[test]
     fn n4_is_as_the_paper_says() {
-        let built = build(&TAILS, &HEADS, &ORDER, &[7; 4], &[7; 5], &[7; 6]);
+        let room = Rows {
+            rank: &[7; 4],
+            first: &[7; 5],
+            row_heads: &[7; 6],
+        };
+        let built = build(&TAILS, &HEADS, &ORDER, room);
         assert_eq!(built.told.edges, 5);
         assert_eq!(built.first, [0, 2, 4, 5, 5]);
         assert_eq!(built.row_heads, [1, 2, 2, 3, 3, 0]);
@@ -403,17 +431,19 @@ mod tests {
             order: &ORDER,
         };
         let rows = built.rows();
-        let costs = customise(map, rows, &[7; 5], &[7; 6]);
-        assert_eq!(costs.up, [CLOSED, 4, 7, 20, 2]);
-        assert_eq!(costs.down, [3, CLOSED, CLOSED, 6, 13, CLOSED]);
-        assert_eq!(
-            distance(&ORDER, rows, &costs.up, &costs.down, 0, 1).distance,
-            12
-        );
-        let drive = route(map, rows, &costs.up, &costs.down, 1, 3, &[7; 4]);
+        let room = Costs {
+            up: &[7; 5],
+            down: &[7; 6],
+        };
+        let left = customise(map, rows, room);
+        assert_eq!(left.up, [CLOSED, 4, 7, 20, 2]);
+        assert_eq!(left.down, [3, CLOSED, CLOSED, 6, 13, CLOSED]);
+        let costs = left.held();
+        assert_eq!(distance(&ORDER, rows, costs, 0, 1).distance, 12);
+        let drive = route(map, rows, costs, 1, 3, &[7; 4]);
         assert_eq!((drive.told.distance, drive.told.arcs), (9, 3));
         assert_eq!(drive.route, [0, 1, 2, CLOSED]);
-        let short = route(map, rows, &costs.up, &costs.down, 1, 3, &[7; 2]);
+        let short = route(map, rows, costs, 1, 3, &[7; 2]);
         assert_eq!((short.told.number, short.route), (12, vec![CLOSED; 2]));
     }
 }

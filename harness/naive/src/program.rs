@@ -1,6 +1,6 @@
 //! "The program": what `route` prints for any input, and what the small program `lines` prints.
 
-use crate::calls::{build, customise, route, Roadmap, Told};
+use crate::calls::{build, customise, route, Costs, Roadmap, Rows, Told};
 use crate::text::{read, Text};
 use crate::NO_WALK;
 
@@ -14,7 +14,7 @@ pub struct Printed {
     /// By `route`.
     pub route: String,
     /// By `lines`.
-    pub lines: String,
+    pub bad_line: String,
 }
 
 /// What the two programs print for an input. The whole text is read first: refusal 14 comes before any other.
@@ -22,11 +22,11 @@ pub fn printed(input: &[u8]) -> Printed {
     match read(input) {
         Ok(text) => Printed {
             route: answer(&text).unwrap_or_else(refused),
-            lines: "the text keeps the rules\n".to_string(),
+            bad_line: "the text keeps the rules\n".to_string(),
         },
         Err(line) => Printed {
             route: refused(14),
-            lines: format!("line {line}\n"),
+            bad_line: format!("line {line}\n"),
         },
     }
 }
@@ -49,7 +49,12 @@ fn answer(text: &Text) -> Result<String, u32> {
     let n = text.order.len();
     let (rank, first) = (vec![0; n], vec![0; n + 1]);
     let room = [0; HEADS_ROOM];
-    let built = build(&text.tails, &text.heads, &text.order, &rank, &first, &room);
+    let rows = Rows {
+        rank: &rank,
+        first: &first,
+        row_heads: &room,
+    };
+    let built = build(&text.tails, &text.heads, &text.order, rows);
     accepted(built.told)?;
     let map = Roadmap {
         tails: &text.tails,
@@ -58,12 +63,12 @@ fn answer(text: &Text) -> Result<String, u32> {
         order: &text.order,
     };
     let rows = built.rows();
-    let costs = customise(map, rows, &room, &room);
-    accepted(costs.told)?;
+    let (up, down) = (&room, &room);
+    let left = customise(map, rows, Costs { up, down });
+    accepted(left.told)?;
     let mut answer = format!("edges {}\n", built.told.edges);
     for &(from, to) in &text.questions {
-        let (up, down) = (&costs.up, &costs.down);
-        let leaves = route(map, rows, up, down, from, to, &[0; ROUTE_ROOM]);
+        let leaves = route(map, rows, left.held(), from, to, &[0; ROUTE_ROOM]);
         let said = said(leaves.told, &leaves.route);
         answer += &format!("{} {} {said}\n", from + 1, to + 1);
     }

@@ -11,7 +11,7 @@ const PAIR: &str = "p sp 2 1\na 1 2 7\no 1\no 2\n";
 /// The text keeps the rules, and `route` prints this.
 fn answered(text: &str, route: &str) {
     let printed = printed(text.as_bytes());
-    assert_eq!(printed.lines, "the text keeps the rules\n", "{text:?}");
+    assert_eq!(printed.bad_line, "the text keeps the rules\n", "{text:?}");
     assert_eq!(printed.route, route, "{text:?}");
 }
 
@@ -20,7 +20,7 @@ fn breaks(text: impl AsRef<[u8]>, line: usize) {
     let text = text.as_ref();
     let printed = printed(text);
     let start = String::from_utf8_lossy(&text[..text.len().min(200)]);
-    assert_eq!(printed.lines, format!("line {line}\n"), "{start:?}");
+    assert_eq!(printed.bad_line, format!("line {line}\n"), "{start:?}");
     assert_eq!(printed.route, "refused 14\n", "{start:?}");
 }
 

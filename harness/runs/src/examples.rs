@@ -2,6 +2,8 @@
 
 use crate::CLOSED;
 use calls::{build, customise, distance, route, Built, Customised, Distance, Refusal, Route};
+use slices::{Arcs, CostRoom, Costs, Graph, GraphRoom, Roads};
+use std::mem::take;
 
 /// A net with its graph and costs, as the calls left them.
 struct Worked {
@@ -23,67 +25,67 @@ impl Worked {
             heads: arcs.iter().map(|arc| arc.1).collect(),
             costs: arcs.iter().map(|arc| arc.2).collect(),
             order: order.to_vec(),
-            rank: vec![77; order.len()],
-            first: vec![77; order.len() + 1],
-            row_heads: vec![77; heads_room],
+            rank: Vec::new(),
+            first: Vec::new(),
+            row_heads: Vec::new(),
             up: vec![77; heads_room],
             down: vec![77; heads_room],
         };
-        let answer = build(
-            &worked.tails,
-            &worked.heads,
-            &worked.order,
-            &mut worked.rank,
-            &mut worked.first,
-            &mut worked.row_heads,
-        );
+        let mut rank = vec![77; order.len()];
+        let mut first = vec![77; order.len() + 1];
+        let mut row_heads = vec![77; heads_room];
+        let room = GraphRoom {
+            rank: &mut rank,
+            first: &mut first,
+            row_heads: &mut row_heads,
+        };
+        let answer = build(worked.roads().arcs, order, room);
+        (worked.rank, worked.first, worked.row_heads) = (rank, first, row_heads);
         (worked, answer)
     }
 
+    fn roads(&self) -> Roads<'_> {
+        let arcs = Arcs {
+            tails: &self.tails,
+            heads: &self.heads,
+        };
+        let costs = &self.costs;
+        Roads { arcs, costs }
+    }
+
+    fn graph(&self) -> Graph<'_> {
+        Graph {
+            order: &self.order,
+            rank: &self.rank,
+            first: &self.first,
+            row_heads: &self.row_heads,
+        }
+    }
+
+    fn held(&self) -> Costs<'_> {
+        let (up, down) = (&self.up, &self.down);
+        Costs { up, down }
+    }
+
     fn customise(&mut self) -> Customised {
-        customise(
-            &self.tails,
-            &self.heads,
-            &self.costs,
-            &self.order,
-            &self.rank,
-            &self.first,
-            &self.row_heads,
-            &mut self.up,
-            &mut self.down,
-        )
+        let (mut up, mut down) = (take(&mut self.up), take(&mut self.down));
+        let room = CostRoom {
+            up: &mut up,
+            down: &mut down,
+        };
+        let answer = customise(self.roads(), self.graph(), room);
+        (self.up, self.down) = (up, down);
+        answer
     }
 
     fn distance(&self, from: u32, to: u32) -> Distance {
-        distance(
-            &self.order,
-            &self.rank,
-            &self.first,
-            &self.row_heads,
-            &self.up,
-            &self.down,
-            from,
-            to,
-        )
+        distance(self.graph(), self.held(), from, to)
     }
 
     fn route(&self, from: u32, to: u32, room: usize) -> (Route, Vec<u32>) {
         let mut list = vec![77; room];
-        let answer = route(
-            &self.tails,
-            &self.heads,
-            &self.costs,
-            &self.order,
-            &self.rank,
-            &self.first,
-            &self.row_heads,
-            &self.up,
-            &self.down,
-            from,
-            to,
-            &mut list,
-        );
-        (answer, list)
+        let (roads, graph, held) = (self.roads(), self.graph(), self.held());
+        (route(roads, graph, held, from, to, &mut list), list)
     }
 }
 

@@ -197,7 +197,7 @@ impl Questions<'_> {
         mut truth: Option<&mut Truth>,
     ) -> Result<(), String> {
         let roads = Roads::of(&lists.tails, &lists.heads, &lists.costs);
-        let mut asked = Asked::of(&lists.order, lists.rows(), &lists.up, &lists.down);
+        let mut asked = Asked::of(&lists.order, lists.rows(), lists.held());
         let mut lent = SUBJECTS.map(|_| Lent::new(lists));
         let most = lists.order.len() + 40;
         for &(from, to) in pairs {

@@ -1,9 +1,9 @@
 //! Everything that a call can be handed, what it has to leave of it, and what it does leave.
 
 use crate::guarded::Guarded;
-use crate::subject::Subject;
+use crate::subject::{run, Subject};
 use crate::Told;
-use naive::calls::{self, Roadmap, Rows};
+use naive::calls::{self, Costs, Roadmap, Rows};
 use std::fmt;
 
 /// The four calls.
@@ -95,6 +95,12 @@ impl Lists {
         ]
     }
 
+    /// All lists as slices, as a call gets them.
+    #[inline]
+    pub fn slices(&mut self) -> [&mut [u32]; 10] {
+        self.all_mut().map(Vec::as_mut_slice)
+    }
+
     /// The roads and the order, for the naive programs.
     pub fn map(&self) -> Roadmap<'_> {
         Roadmap {
@@ -111,6 +117,14 @@ impl Lists {
             rank: &self.rank,
             first: &self.first,
             row_heads: &self.row_heads,
+        }
+    }
+
+    /// The costs on the graph, for the naive programs.
+    pub fn held(&self) -> Costs<'_> {
+        Costs {
+            up: &self.up,
+            down: &self.down,
         }
     }
 }
@@ -163,39 +177,27 @@ pub fn expected(call: Call, lists: &Lists) -> Outcome {
     let mut left = lists.clone();
     let told = match call {
         Call::Build => {
-            let leaves = calls::build(
-                &lists.tails,
-                &lists.heads,
-                &lists.order,
-                &lists.rank,
-                &lists.first,
-                &lists.row_heads,
-            );
+            let leaves = calls::build(&lists.tails, &lists.heads, &lists.order, lists.rows());
             left.rank = leaves.rank;
             left.first = leaves.first;
             left.row_heads = leaves.row_heads;
             leaves.told
         }
         Call::Customise => {
-            let leaves = calls::customise(lists.map(), lists.rows(), &lists.up, &lists.down);
+            let leaves = calls::customise(lists.map(), lists.rows(), lists.held());
             left.up = leaves.up;
             left.down = leaves.down;
             leaves.told
         }
-        Call::Distance => calls::distance(
-            &lists.order,
-            lists.rows(),
-            &lists.up,
-            &lists.down,
-            lists.from,
-            lists.to,
-        ),
+        Call::Distance => {
+            let (order, from, to) = (&lists.order, lists.from, lists.to);
+            calls::distance(order, lists.rows(), lists.held(), from, to)
+        }
         Call::Route => {
             let leaves = calls::route(
                 lists.map(),
                 lists.rows(),
-                &lists.up,
-                &lists.down,
+                lists.held(),
                 lists.from,
                 lists.to,
                 &lists.route,
@@ -227,52 +229,8 @@ impl Lent {
 
     /// Runs a call.
     pub fn call(&mut self, subject: &dyn Subject, call: Call, from: u32, to: u32) -> Told {
-        let [tails, heads, costs, order, rank, first, row_heads, up, down, route] = &mut self.lists;
-        match call {
-            Call::Build => subject.build(
-                tails.list(),
-                heads.list(),
-                order.list(),
-                rank.list_mut(),
-                first.list_mut(),
-                row_heads.list_mut(),
-            ),
-            Call::Customise => subject.customise(
-                tails.list(),
-                heads.list(),
-                costs.list(),
-                order.list(),
-                rank.list(),
-                first.list(),
-                row_heads.list(),
-                up.list_mut(),
-                down.list_mut(),
-            ),
-            Call::Distance => subject.distance(
-                order.list(),
-                rank.list(),
-                first.list(),
-                row_heads.list(),
-                up.list(),
-                down.list(),
-                from,
-                to,
-            ),
-            Call::Route => subject.route(
-                tails.list(),
-                heads.list(),
-                costs.list(),
-                order.list(),
-                rank.list(),
-                first.list(),
-                row_heads.list(),
-                up.list(),
-                down.list(),
-                from,
-                to,
-                route.list_mut(),
-            ),
-        }
+        let lists = self.lists.each_mut().map(Guarded::list_mut);
+        run(subject, call, lists, (from, to))
     }
 
     /// The route list.

@@ -1,7 +1,7 @@
 //! A net with everything worked out, ready to be measured.
 
 use crate::lists::{Call, Lists};
-use crate::subject::{Library, Plain, Subject};
+use crate::subject::{run, Library, Plain, Subject};
 use crate::CLOSED;
 use naive::roads::Roads;
 use naive::walks::{Dijkstra, Leaving};
@@ -77,14 +77,7 @@ impl Ready {
             row_heads: vec![0; n * (n - 1) / 2],
             ..Lists::default()
         };
-        let told = Plain.build(
-            &lists.tails,
-            &lists.heads,
-            &lists.order,
-            &mut lists.rank,
-            &mut lists.first,
-            &mut lists.row_heads,
-        );
+        let told = run(&Plain, Call::Build, lists.slices(), (0, 0));
         let edges = told.edges as usize;
         lists.row_heads.truncate(edges);
         lists.row_heads.shrink_to_fit();
@@ -118,61 +111,17 @@ impl Ready {
 
     /// Runs a job once, for one of the pairs. Replies a number that depends on the work.
     pub fn run(&mut self, (call, who): Job, turn: usize) -> u64 {
-        let (from, to) = self.pairs[turn % PAIRS];
+        let pair = self.pairs[turn % PAIRS];
         let subject: &dyn Subject = match who {
             Who::Library => &Library,
             Who::Plain => &Plain,
             Who::Dijkstra => {
-                let far = self.dijkstra.distance(&self.leaving, from, to);
+                let far = self.dijkstra.distance(&self.leaving, pair.0, pair.1);
                 return far.unwrap_or(u64::MAX);
             }
         };
-        let l = black_box(&mut self.lists);
-        let told = match call {
-            Call::Build => subject.build(
-                &l.tails,
-                &l.heads,
-                &l.order,
-                &mut l.rank,
-                &mut l.first,
-                &mut l.row_heads,
-            ),
-            Call::Customise => subject.customise(
-                &l.tails,
-                &l.heads,
-                &l.costs,
-                &l.order,
-                &l.rank,
-                &l.first,
-                &l.row_heads,
-                &mut l.up,
-                &mut l.down,
-            ),
-            Call::Distance => subject.distance(
-                &l.order,
-                &l.rank,
-                &l.first,
-                &l.row_heads,
-                &l.up,
-                &l.down,
-                from,
-                to,
-            ),
-            Call::Route => subject.route(
-                &l.tails,
-                &l.heads,
-                &l.costs,
-                &l.order,
-                &l.rank,
-                &l.first,
-                &l.row_heads,
-                &l.up,
-                &l.down,
-                from,
-                to,
-                &mut l.route,
-            ),
-        };
+        let lists = black_box(&mut self.lists);
+        let told = run(subject, call, lists.slices(), pair);
         u64::from(told.number) + told.distance
     }
 

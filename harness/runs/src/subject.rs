@@ -1,65 +1,31 @@
 //! The calls under test: the library's, by its C functions, and those of the crate `plain`.
 
+use crate::lists::Call;
 use crate::Told;
 use calls::told;
 use plain::Refusal;
+use slices::{Arcs, CostRoom, Costs, Graph, GraphRoom, Roads};
 
 /// The four calls of one implementation, with the numbers that they tell.
-#[allow(clippy::too_many_arguments)]
 pub trait Subject {
     /// Its name in reports.
     fn name(&self) -> &'static str;
 
     /// Build.
-    fn build(
-        &self,
-        tails: &[u32],
-        heads: &[u32],
-        order: &[u32],
-        rank: &mut [u32],
-        first: &mut [u32],
-        row_heads: &mut [u32],
-    ) -> Told;
+    fn build(&self, arcs: Arcs, order: &[u32], room: GraphRoom) -> Told;
 
     /// Customise.
-    fn customise(
-        &self,
-        tails: &[u32],
-        heads: &[u32],
-        costs: &[u32],
-        order: &[u32],
-        rank: &[u32],
-        first: &[u32],
-        row_heads: &[u32],
-        up: &mut [u32],
-        down: &mut [u32],
-    ) -> Told;
+    fn customise(&self, roads: Roads, graph: Graph, room: CostRoom) -> Told;
 
     /// Distance.
-    fn distance(
-        &self,
-        order: &[u32],
-        rank: &[u32],
-        first: &[u32],
-        row_heads: &[u32],
-        up: &[u32],
-        down: &[u32],
-        from: u32,
-        to: u32,
-    ) -> Told;
+    fn distance(&self, graph: Graph, costs: Costs, from: u32, to: u32) -> Told;
 
     /// Route.
     fn route(
         &self,
-        tails: &[u32],
-        heads: &[u32],
-        costs: &[u32],
-        order: &[u32],
-        rank: &[u32],
-        first: &[u32],
-        row_heads: &[u32],
-        up: &[u32],
-        down: &[u32],
+        roads: Roads,
+        graph: Graph,
+        costs: Costs,
         from: u32,
         to: u32,
         route: &mut [u32],
@@ -69,101 +35,83 @@ pub trait Subject {
 /// Both.
 pub const SUBJECTS: [&dyn Subject; 2] = [&Library, &Plain];
 
+/// Runs a call on lists, in the sequence of [`crate::lists::NAMES`]. It writes only what that call may write.
+#[inline]
+pub fn run(
+    subject: &dyn Subject,
+    call: Call,
+    lists: [&mut [u32]; 10],
+    (from, to): (u32, u32),
+) -> Told {
+    let [tails, heads, costs, order, rank, first, row_heads, up, down, route] = lists;
+    let arcs = Arcs { tails, heads };
+    let roads = Roads { arcs, costs };
+    let graph = Graph {
+        order,
+        rank,
+        first,
+        row_heads,
+    };
+    match call {
+        Call::Build => {
+            let room = GraphRoom {
+                rank,
+                first,
+                row_heads,
+            };
+            subject.build(arcs, order, room)
+        }
+        Call::Customise => subject.customise(roads, graph, CostRoom { up, down }),
+        Call::Distance => subject.distance(graph, Costs { up, down }, from, to),
+        Call::Route => subject.route(roads, graph, Costs { up, down }, from, to, route),
+    }
+}
+
 /// The library, or what is linked in its place.
 pub struct Library;
 
 impl Subject for Library {
     fn name(&self) -> &'static str {
-        if calls::ARCHIVE {
+        if calls::LIBRARY {
             "library"
         } else {
             "stand-in"
         }
     }
 
-    fn build(
-        &self,
-        tails: &[u32],
-        heads: &[u32],
-        order: &[u32],
-        rank: &mut [u32],
-        first: &mut [u32],
-        row_heads: &mut [u32],
-    ) -> Told {
-        let told = told::build(tails, heads, order, rank, first, row_heads);
-        Told {
-            number: told.number,
-            place: told.place,
-            edges: told.edges,
-            ..Told::default()
-        }
+    fn build(&self, arcs: Arcs, order: &[u32], room: GraphRoom) -> Told {
+        as_told(told::build(arcs, order, room))
     }
 
-    fn customise(
-        &self,
-        tails: &[u32],
-        heads: &[u32],
-        costs: &[u32],
-        order: &[u32],
-        rank: &[u32],
-        first: &[u32],
-        row_heads: &[u32],
-        up: &mut [u32],
-        down: &mut [u32],
-    ) -> Told {
-        let told = told::customise(tails, heads, costs, order, rank, first, row_heads, up, down);
-        Told {
-            number: told.number,
-            place: told.place,
-            ..Told::default()
-        }
+    fn customise(&self, roads: Roads, graph: Graph, room: CostRoom) -> Told {
+        as_told(told::customise(roads, graph, room))
     }
 
-    fn distance(
-        &self,
-        order: &[u32],
-        rank: &[u32],
-        first: &[u32],
-        row_heads: &[u32],
-        up: &[u32],
-        down: &[u32],
-        from: u32,
-        to: u32,
-    ) -> Told {
-        let told = told::distance(order, rank, first, row_heads, up, down, from, to);
-        Told {
-            number: told.number,
-            place: told.place,
-            distance: told.distance,
-            ..Told::default()
-        }
+    fn distance(&self, graph: Graph, costs: Costs, from: u32, to: u32) -> Told {
+        as_told(told::distance(graph, costs, from, to))
     }
 
     fn route(
         &self,
-        tails: &[u32],
-        heads: &[u32],
-        costs: &[u32],
-        order: &[u32],
-        rank: &[u32],
-        first: &[u32],
-        row_heads: &[u32],
-        up: &[u32],
-        down: &[u32],
+        roads: Roads,
+        graph: Graph,
+        costs: Costs,
         from: u32,
         to: u32,
         route: &mut [u32],
     ) -> Told {
-        let told = told::route(
-            tails, heads, costs, order, rank, first, row_heads, up, down, from, to, route,
-        );
-        Told {
-            number: told.number,
-            place: told.place,
-            distance: told.distance,
-            arcs: told.arcs,
-            ..Told::default()
-        }
+        as_told(told::route(roads, graph, costs, from, to, route))
+    }
+}
+
+/// The numbers as the naive programs have them.
+fn as_told(told: slices::Told) -> Told {
+    Told {
+        number: told.number,
+        place: told.place,
+        edges: told.edges,
+        distance: told.distance,
+        arcs: told.arcs,
     }
 }
 
@@ -175,16 +123,8 @@ impl Subject for Plain {
         "plain Rust"
     }
 
-    fn build(
-        &self,
-        tails: &[u32],
-        heads: &[u32],
-        order: &[u32],
-        rank: &mut [u32],
-        first: &mut [u32],
-        row_heads: &mut [u32],
-    ) -> Told {
-        match plain::build(tails, heads, order, rank, first, row_heads) {
+    fn build(&self, arcs: Arcs, order: &[u32], room: GraphRoom) -> Told {
+        match plain::build(arcs, order, room) {
             Ok(edges) => Told {
                 edges: edges as u64,
                 ..Told::default()
@@ -193,34 +133,12 @@ impl Subject for Plain {
         }
     }
 
-    fn customise(
-        &self,
-        tails: &[u32],
-        heads: &[u32],
-        costs: &[u32],
-        order: &[u32],
-        rank: &[u32],
-        first: &[u32],
-        row_heads: &[u32],
-        up: &mut [u32],
-        down: &mut [u32],
-    ) -> Told {
-        let answer = plain::customise(tails, heads, costs, order, rank, first, row_heads, up, down);
-        answer.map_or_else(refused, |()| Told::default())
+    fn customise(&self, roads: Roads, graph: Graph, room: CostRoom) -> Told {
+        plain::customise(roads, graph, room).map_or_else(refused, |()| Told::default())
     }
 
-    fn distance(
-        &self,
-        order: &[u32],
-        rank: &[u32],
-        first: &[u32],
-        row_heads: &[u32],
-        up: &[u32],
-        down: &[u32],
-        from: u32,
-        to: u32,
-    ) -> Told {
-        match plain::distance(order, rank, first, row_heads, up, down, from, to) {
+    fn distance(&self, graph: Graph, costs: Costs, from: u32, to: u32) -> Told {
+        match plain::distance(graph, costs, from, to) {
             Ok(distance) => Told {
                 distance: distance.unwrap_or(u64::MAX),
                 ..Told::default()
@@ -231,23 +149,14 @@ impl Subject for Plain {
 
     fn route(
         &self,
-        tails: &[u32],
-        heads: &[u32],
-        costs: &[u32],
-        order: &[u32],
-        rank: &[u32],
-        first: &[u32],
-        row_heads: &[u32],
-        up: &[u32],
-        down: &[u32],
+        roads: Roads,
+        graph: Graph,
+        costs: Costs,
         from: u32,
         to: u32,
         route: &mut [u32],
     ) -> Told {
-        let answer = plain::route(
-            tails, heads, costs, order, rank, first, row_heads, up, down, from, to, route,
-        );
-        match answer {
+        match plain::route(roads, graph, costs, from, to, route) {
             Ok(Some(drive)) => Told {
                 distance: drive.distance,
                 arcs: drive.arcs as u64,

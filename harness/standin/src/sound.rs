@@ -1,80 +1,47 @@
 //! The calls as they should be.
 
-use crate::{BuildLists, CustomiseLists, DistanceLists, Reply, RouteLists};
+use crate::Asked;
 use plain::{Drive, Refusal};
+use slices::{Arcs, CostRoom, Costs, Graph, GraphRoom, Roads, Told};
 
-fn refused(refusal: Refusal) -> Reply {
-    Reply {
+fn refused(refusal: Refusal) -> Told {
+    Told {
         number: refusal.number(),
         place: refusal.place() as u64,
-        ..Reply::default()
+        ..Told::default()
     }
 }
 
-pub fn build(l: BuildLists) -> Reply {
-    match plain::build(l.tails, l.heads, l.order, l.rank, l.first, l.row_heads) {
-        Ok(edges) => Reply {
+pub fn build(arcs: Arcs, order: &[u32], room: GraphRoom) -> Told {
+    match plain::build(arcs, order, room) {
+        Ok(edges) => Told {
             edges: edges as u64,
-            ..Reply::default()
+            ..Told::default()
         },
         Err(refusal) => refused(refusal),
     }
 }
 
-pub fn customise(l: CustomiseLists) -> Reply {
-    let answer = plain::customise(
-        l.tails,
-        l.heads,
-        l.costs,
-        l.order,
-        l.rank,
-        l.first,
-        l.row_heads,
-        l.up,
-        l.down,
-    );
-    match answer {
-        Ok(()) => Reply::default(),
+pub fn customise(roads: Roads, graph: Graph, room: CostRoom) -> Told {
+    match plain::customise(roads, graph, room) {
+        Ok(()) => Told::default(),
         Err(refusal) => refused(refusal),
     }
 }
 
-pub fn distance(l: DistanceLists) -> Reply {
-    let answer = plain::distance(
-        l.order,
-        l.rank,
-        l.first,
-        l.row_heads,
-        l.up,
-        l.down,
-        l.from,
-        l.to,
-    );
-    match answer {
-        Ok(distance) => Reply {
+pub fn distance(graph: Graph, costs: Costs, from: u32, to: u32) -> Told {
+    match plain::distance(graph, costs, from, to) {
+        Ok(distance) => Told {
             distance: distance.unwrap_or(u64::MAX),
-            ..Reply::default()
+            ..Told::default()
         },
         Err(refusal) => refused(refusal),
     }
 }
 
-pub fn route(l: RouteLists) -> Reply {
-    let answer = plain::route(
-        l.tails,
-        l.heads,
-        l.costs,
-        l.order,
-        l.rank,
-        l.first,
-        l.row_heads,
-        l.up,
-        l.down,
-        l.from,
-        l.to,
-        l.route,
-    );
-    let drive = match answer {
+pub fn route(asked: Asked, route: &mut [u32]) -> Told {
+    let Asked { from, to, .. } = asked;
+    let drive = match plain::route(asked.roads, asked.graph, asked.costs, from, to, route) {
         Ok(drive) => drive,
         Err(refusal) => return refused(refusal),
     };
@@ -82,9 +49,9 @@ pub fn route(l: RouteLists) -> Reply {
         distance: u64::MAX,
         arcs: 0,
     });
-    Reply {
+    Told {
         distance: drive.distance,
         arcs: drive.arcs as u64,
-        ..Reply::default()
+        ..Told::default()
     }
 }

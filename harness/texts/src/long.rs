@@ -37,7 +37,7 @@ fn good(name: &'static str, text: String, route: &str) -> Long {
         text: text.into_bytes(),
         expected: Printed {
             route: route.to_string(),
-            lines: "the text keeps the rules\n".to_string(),
+            bad_line: "the text keeps the rules\n".to_string(),
         },
     }
 }
@@ -48,7 +48,7 @@ fn faulty(name: &'static str, text: String, line: usize) -> Long {
         text: text.into_bytes(),
         expected: Printed {
             route: "refused 14\n".to_string(),
-            lines: format!("line {line}\n"),
+            bad_line: format!("line {line}\n"),
         },
     }
 }

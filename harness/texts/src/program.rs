@@ -176,7 +176,7 @@ pub struct Programs {
     /// It prints the answers.
     pub route: Program,
     /// It prints the line that breaks the rules.
-    pub lines: Program,
+    pub bad_line: Program,
 }
 
 impl Programs {
@@ -185,8 +185,8 @@ impl Programs {
         let of = |name: &str, said: String| format!("{name} {said}");
         let route = self.route.wrong(fed, &expected.route);
         route.map(|said| of("route", said)).or_else(|| {
-            let lines = self.lines.wrong(fed, &expected.lines);
-            lines.map(|said| of("lines", said))
+            let bad_line = self.bad_line.wrong(fed, &expected.bad_line);
+            bad_line.map(|said| of("bad_line", said))
         })
     }
 }

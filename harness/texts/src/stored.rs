@@ -7,7 +7,7 @@ use std::path::{Path, PathBuf};
 /// The texts beside the nets, for people. The others are in the folder `program`.
 const BESIDE: [&str; 3] = ["n4.gr", "bologna.txt", "county.txt"];
 
-/// The table of what `lines` must print.
+/// The table of what `bad_line` must print.
 const TABLE: &str = "lines.txt";
 
 /// A stored text.
@@ -69,7 +69,7 @@ pub fn store(nets: &Path, printed: impl Fn(&[u8]) -> Printed) -> Result<(), Stri
         let printed = printed(&stored.text);
         let path = stored.path.with_extension("out");
         fs::write(&path, printed.route).map_err(told(&path))?;
-        table += &format!("{} {}", stored.name, printed.lines);
+        table += &format!("{} {}", stored.name, printed.bad_line);
     }
     let path = folder(nets).join(TABLE);
     fs::write(&path, table).map_err(told(&path))
@@ -90,7 +90,7 @@ pub fn expected(nets: &Path) -> Result<Vec<(Stored, Printed)>, String> {
         let path = stored.path.with_extension("out");
         let printed = Printed {
             route: fs::read_to_string(&path).map_err(told(&path))?,
-            lines: format!("{said}\n"),
+            bad_line: format!("{said}\n"),
         };
         expected.push((stored, printed));
     }

@@ -2,7 +2,7 @@
 //! programs. The format is told in crates/nets/README.md.
 
 use cases::Case;
-use naive::calls::{self, Asked, BuildLeaves, CustomiseLeaves, Roadmap, Rows};
+use naive::calls::{self, Asked, BuildLeaves, Costs, CustomiseLeaves, Roadmap, Rows};
 use naive::roads::Roads;
 use naive::walks::{Dijkstra, Leaving};
 use naive::{CLOSED, NO_WALK};
@@ -308,7 +308,7 @@ fn questions(net: &Stored, left: &Left) -> Result<Vec<Question>, String> {
     if left.built.told.number != 0 || left.costs.told.number != 0 {
         return Ok(blind_questions(net, &mut source));
     }
-    let mut asked = Asked::of(&net.order, left.rows(), &left.costs.up, &left.costs.down);
+    let mut asked = Asked::of(&net.order, left.built.rows(), left.costs.held());
     let now = Roads::of(&net.tails, &net.heads, &net.costs);
     let leaving = Leaving::of(n, &now);
     let mut dijkstra = Dijkstra::new(n);
@@ -360,24 +360,18 @@ struct Left {
 impl Left {
     fn on(net: &Stored) -> Left {
         let [rank, first, row_heads, up, down] = net.rooms.map(|room| vec![BEFORE; room]);
-        let built = calls::build(
-            &net.tails, &net.heads, &net.order, &rank, &first, &row_heads,
-        );
-        let rows = Rows {
-            rank: &built.rank,
-            first: &built.first,
-            row_heads: &built.row_heads,
+        let room = Rows {
+            rank: &rank,
+            first: &first,
+            row_heads: &row_heads,
         };
-        let costs = calls::customise(net.map(false), rows, &up, &down);
+        let built = calls::build(&net.tails, &net.heads, &net.order, room);
+        let room = Costs {
+            up: &up,
+            down: &down,
+        };
+        let costs = calls::customise(net.map(false), built.rows(), room);
         Left { built, costs }
-    }
-
-    fn rows(&self) -> Rows<'_> {
-        Rows {
-            rank: &self.built.rank,
-            first: &self.built.first,
-            row_heads: &self.built.row_heads,
-        }
     }
 
     /// What the program writes about a net.
@@ -408,13 +402,13 @@ impl Left {
     /// What the program writes about a question.
     fn answer(&self, text: &mut String, net: &Stored, question: Question) {
         let Question { from, to, .. } = question;
-        let (up, down) = (&self.costs.up, &self.costs.down);
-        let told = calls::distance(&net.order, self.rows(), up, down, from, to);
+        let (rows, costs) = (self.built.rows(), self.costs.held());
+        let told = calls::distance(&net.order, rows, costs, from, to);
         let (number, place, distance) = (told.number, told.place, told.distance);
         line(text, &format!("distance {number} at {place}:"), &[distance]);
         let list = vec![BEFORE; question.room];
         let map = net.map(question.is_later);
-        let leaves = calls::route(map, self.rows(), up, down, from, to, &list);
+        let leaves = calls::route(map, rows, costs, from, to, &list);
         let told = leaves.told;
         let (number, place, distance) = (told.number, told.place, told.distance);
         line(

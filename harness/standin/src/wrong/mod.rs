@@ -1,9 +1,12 @@
 //! The calls with one fault planted, chosen by number. The runs must find each.
 
+#![allow(unsafe_code)]
+
 mod sloppy;
 
-use crate::{sound, BuildLists, CustomiseLists, DistanceLists, Reply, RouteLists};
+use crate::{sound, Asked};
 use plain::CLOSED;
+use slices::{Arcs, CostRoom, Costs, Graph, GraphRoom, Roads, Told};
 
 /// The planted fault's number, 0 for none.
 #[cfg(feature = "wrong")]
@@ -72,7 +75,7 @@ pub const FAULTS: [&str; 46] = [
 ];
 
 /// 1: the refusal of everything.
-const NO: Reply = Reply {
+const NO: Told = Told {
     number: 1,
     place: 0,
     edges: 0,
@@ -80,9 +83,10 @@ const NO: Reply = Reply {
     arcs: 0,
 };
 
-/// The arcs as a faulty check sees them.
-fn seen(tails: &[u32], heads: &[u32], costs: &[u32]) -> (Vec<u32>, Vec<u32>) {
-    let (mut heads, mut costs) = (heads.to_vec(), costs.to_vec());
+/// The arcs' heads and costs as a faulty check sees them.
+fn seen(roads: Roads) -> (Vec<u32>, Vec<u32>) {
+    let tails = roads.arcs.tails;
+    let (mut heads, mut costs) = (roads.arcs.heads.to_vec(), roads.costs.to_vec());
     let arcs = tails.len().min(heads.len()).min(costs.len());
     for arc in 0..arcs {
         if fault() == 42 && tails[arc] == heads[arc] {
@@ -97,10 +101,20 @@ fn seen(tails: &[u32], heads: &[u32], costs: &[u32]) -> (Vec<u32>, Vec<u32>) {
     (heads, costs)
 }
 
+/// The roads with other heads.
+fn with_heads<'a>(roads: Roads<'a>, heads: &'a [u32]) -> Roads<'a> {
+    let arcs = Arcs {
+        heads,
+        ..roads.arcs
+    };
+    Roads { arcs, ..roads }
+}
+
 /// The place of a refusal as a faulty check tells it.
-fn misplaced(mut reply: Reply, tails: &[u32], order: &[u32]) -> Reply {
+fn misplaced(mut reply: Told, arcs: Arcs, order: &[u32]) -> Told {
     if fault() == 40 && reply.number == 3 {
-        let bad_tail = tails.iter().position(|&tail| tail as usize >= order.len());
+        let mut tails = arcs.tails.iter();
+        let bad_tail = tails.position(|&tail| tail as usize >= order.len());
         reply.place = bad_tail.map_or(reply.place, |arc| arc as u64);
     }
     if fault() == 41 && reply.number == 4 {
@@ -111,174 +125,177 @@ fn misplaced(mut reply: Reply, tails: &[u32], order: &[u32]) -> Reply {
     reply
 }
 
-fn told(mut reply: Reply) -> Reply {
+/// What is told of a reply.
+fn told(mut reply: Told) -> Told {
     if fault() == 22 {
         reply.place = 0;
-    }
-    if fault() == 39 && reply.number != 0 {
-        reply.distance = 7;
     }
     reply
 }
 
-pub fn build(l: BuildLists) -> Reply {
-    let old = [l.rank.to_vec(), l.first.to_vec(), l.row_heads.to_vec()];
-    let n = l.order.len();
+/// The same of a call that tells a distance.
+fn told_with_distance(mut reply: Told) -> Told {
+    if fault() == 39 && reply.number != 0 {
+        reply.distance = 7;
+    }
+    told(reply)
+}
+
+pub fn build(arcs: Arcs, order: &[u32], room: GraphRoom) -> Told {
+    let old = [&room.rank, &room.first, &room.row_heads].map(|list| list.to_vec());
+    let n = order.len();
     match fault() {
         1 => return NO,
         30 if n == 4_096 => return NO,
-        31 if n <= 4_096 && l.tails.len() == 16_384 => return Reply { number: 2, ..NO },
+        31 if n <= 4_096 && arcs.tails.len() == 16_384 => return Told { number: 2, ..NO },
         27 => {
             // SAFETY: none; the guard behind the room is there to be written
-            unsafe { *l.row_heads.as_mut_ptr().add(l.row_heads.len()) = 0 };
+            unsafe { *room.row_heads.as_mut_ptr().add(room.row_heads.len()) = 0 };
         }
         _ => {}
     }
-    let mut reply = sound::build(BuildLists {
+    let lent = GraphRoom {
         rank: match fault() {
-            33 if l.rank.len() > n => &mut l.rank[..n],
-            _ => l.rank,
+            33 if room.rank.len() > n => &mut room.rank[..n],
+            _ => room.rank,
         },
-        first: l.first,
-        row_heads: l.row_heads,
-        ..l
-    });
+        first: room.first,
+        row_heads: room.row_heads,
+    };
+    let mut reply = sound::build(arcs, order, lent);
     let accepted = reply.number == 0;
     match fault() {
-        5 => {
-            l.rank.copy_from_slice(&old[0]);
-            l.first.copy_from_slice(&old[1]);
-            l.row_heads.copy_from_slice(&old[2]);
-        }
         7 if accepted => reply.edges += 1,
-        9 if accepted => {
-            reply.edges =
-                sloppy::join_input_neighbours(l.tails, l.heads, l.rank, l.first, l.row_heads);
-        }
+        9 if accepted => reply.edges = sloppy::join_input_neighbours(arcs, room),
         18 if accepted => {
             let edges = reply.edges as usize;
-            l.row_heads[edges..].copy_from_slice(&old[2][edges..]);
+            room.row_heads[edges..].copy_from_slice(&old[2][edges..]);
         }
-        20 if reply.number == 6 => {
-            l.rank.copy_from_slice(&old[0]);
-            l.first.copy_from_slice(&old[1]);
-            l.row_heads.copy_from_slice(&old[2]);
+        5 | 20 if fault() == 5 || reply.number == 6 => {
+            room.rank.copy_from_slice(&old[0]);
+            room.first.copy_from_slice(&old[1]);
+            room.row_heads.copy_from_slice(&old[2]);
         }
         _ => {}
     }
-    told(misplaced(reply, l.tails, l.order))
+    told(misplaced(reply, arcs, order))
 }
 
-pub fn customise(l: CustomiseLists) -> Reply {
-    let old = [l.up.to_vec(), l.down.to_vec()];
+pub fn customise(roads: Roads, graph: Graph, room: CostRoom) -> Told {
+    let old = [&room.up, &room.down].map(|list| list.to_vec());
     match fault() {
         1 => return NO,
-        30 if l.order.len() == 4_096 => return NO,
-        32 if l.up.len() < l.row_heads.len() => return Reply { number: 10, ..NO },
-        38 if !l.tails.is_empty() => {
+        30 if graph.order.len() == 4_096 => return NO,
+        32 if room.up.len() < graph.row_heads.len() => return Told { number: 10, ..NO },
+        38 if !roads.arcs.tails.is_empty() => {
             // SAFETY: none; a list lent for reading is written
-            unsafe { *l.tails.as_ptr().cast_mut() = 0 };
+            unsafe { *roads.arcs.tails.as_ptr().cast_mut() = 0 };
         }
         _ => {}
     }
-    let edges = l.first.last().map_or(0, |&edges| edges as usize);
-    let (heads, costs) = seen(l.tails, l.heads, l.costs);
-    let reply = sound::customise(CustomiseLists {
-        heads: &heads,
+    let (heads, costs) = seen(roads);
+    let roads_seen = Roads {
         costs: &costs,
-        up: l.up,
-        down: l.down,
-        ..l
-    });
-    let accepted = reply.number == 0;
-    match fault() {
-        5 => {
-            l.up.copy_from_slice(&old[0]);
-            l.down.copy_from_slice(&old[1]);
-        }
-        6 | 8 | 12 | 24 | 25 if accepted => sloppy::customise(CustomiseLists {
-            up: l.up,
-            down: l.down,
-            ..l
-        }),
-        10 if reply.number == 8 && l.costs[reply.place as usize] == CLOSED => {
-            let (tails, heads) = without_closed(l.tails, l.heads, l.costs);
-            return sound::customise(CustomiseLists {
-                tails: &tails,
-                heads: &heads,
-                ..l
-            });
-        }
-        19 if accepted => {
-            l.up[edges..].copy_from_slice(&old[0][edges..]);
-            l.down[edges..].copy_from_slice(&old[1][edges..]);
-        }
-        23 if reply.number == 8 => return nine_first(reply, l.costs),
-        36 if accepted && l.row_heads.len() > edges => {
-            l.up.copy_from_slice(&old[0]);
-            l.down.copy_from_slice(&old[1]);
-            return Reply { number: 7, ..NO };
-        }
-        44 if reply.number == 9 && (l.up.len() < edges || l.down.len() < edges) => {
-            return Reply { number: 10, ..NO };
-        }
-        _ => {}
-    }
-    told(misplaced(reply, l.tails, l.order))
+        ..with_heads(roads, &heads)
+    };
+    let lent = CostRoom {
+        up: room.up,
+        down: room.down,
+    };
+    let reply = sound::customise(roads_seen, graph, lent);
+    let reply = customise_wrongly(reply, roads, graph, room, old);
+    told(misplaced(reply, roads.arcs, graph.order))
 }
 
-pub fn distance(l: DistanceLists) -> Reply {
+/// What is left of a sound customise, whose room held the old costs before.
+fn customise_wrongly(
+    reply: Told,
+    roads: Roads,
+    graph: Graph,
+    room: CostRoom,
+    old: [Vec<u32>; 2],
+) -> Told {
+    let accepted = reply.number == 0;
+    let edges = graph.first.last().map_or(0, |&edges| edges as usize);
+    let from = match fault() {
+        5 => 0,
+        6 | 8 | 12 | 24 | 25 if accepted => {
+            sloppy::customise(roads, graph, room);
+            return reply;
+        }
+        10 if reply.number == 8 && roads.costs[reply.place as usize] == CLOSED => {
+            return sound::customise(with_heads(roads, &without_closed(roads)), graph, room);
+        }
+        19 if accepted => edges,
+        23 if reply.number == 8 => return nine_first(reply, roads.costs),
+        36 if accepted && graph.row_heads.len() > edges => 0,
+        44 if reply.number == 9 && (room.up.len() < edges || room.down.len() < edges) => {
+            return Told { number: 10, ..NO };
+        }
+        _ => return reply,
+    };
+    room.up[from..].copy_from_slice(&old[0][from..]);
+    room.down[from..].copy_from_slice(&old[1][from..]);
+    match fault() {
+        36 => Told { number: 7, ..NO },
+        _ => reply,
+    }
+}
+
+pub fn distance(graph: Graph, costs: Costs, from: u32, to: u32) -> Told {
     match fault() {
         1 => return NO,
-        35 if l.from == l.to => return Reply::default(),
+        35 if from == to => return Told::default(),
         _ => {}
     }
-    let mut reply = sound::distance(l);
+    let mut reply = sound::distance(graph, costs, from, to);
     let accepted = reply.number == 0;
     match fault() {
         2 if accepted => reply.distance = u64::MAX,
         3 if accepted => reply.distance = 0,
-        11 | 45 if accepted => reply.distance = sloppy::distance(l),
-        26 if reply.number == 7 && sloppy::all_but_parents(l) => {
-            reply = Reply {
-                distance: sloppy::distance(l),
-                ..Reply::default()
+        11 | 45 if accepted => reply.distance = sloppy::distance(graph, costs, from, to),
+        26 if reply.number == 7 && sloppy::all_but_parents(graph, costs, from, to) => {
+            reply = Told {
+                distance: sloppy::distance(graph, costs, from, to),
+                ..Told::default()
             };
         }
         28 if reply.distance >= u64::from(CLOSED) => reply.distance = u64::MAX,
         _ => {}
     }
-    told(reply)
+    told_with_distance(reply)
 }
 
-pub fn route(l: RouteLists) -> Reply {
-    let route = l.route;
+pub fn route(asked: Asked, route: &mut [u32]) -> Told {
     let old = route.to_vec();
+    let Asked { roads, graph, .. } = asked;
     match fault() {
         1 => return NO,
-        35 if l.from == l.to => {
+        35 if asked.from == asked.to => {
             route.fill(CLOSED);
-            return Reply::default();
+            return Told::default();
         }
         _ => {}
     }
-    let (mut from, mut to) = (l.from, l.to);
-    if fault() == 4 {
-        let mut elsewhere = old.clone();
-        let route = &mut elsewhere[..];
-        if sound::route(RouteLists { route, ..l }).number == 0 {
-            (from, to) = (0, l.order.len() as u32 - 1);
-        }
+    let (heads, costs) = seen(roads);
+    let mut asked_seen = Asked {
+        roads: Roads {
+            costs: &costs,
+            ..with_heads(roads, &heads)
+        },
+        ..asked
+    };
+    if fault() == 4 && sound::route(asked, &mut old.clone()).number == 0 {
+        (asked_seen.from, asked_seen.to) = (0, graph.order.len() as u32 - 1);
     }
-    let (heads, costs) = seen(l.tails, l.heads, l.costs);
-    let mut reply = sound::route(RouteLists {
-        heads: &heads,
-        costs: &costs,
-        from,
-        to,
-        route,
-        ..l
-    });
+    let reply = sound::route(asked_seen, route);
+    let reply = route_wrongly(reply, asked, route, &old);
+    told_with_distance(misplaced(reply, roads.arcs, graph.order))
+}
+
+/// What is left of a sound route, whose list held the old words before.
+fn route_wrongly(mut reply: Told, asked: Asked, route: &mut [u32], old: &[u32]) -> Told {
+    let roads = asked.roads;
     let accepted = reply.number == 0;
     match fault() {
         2 | 3 if accepted => {
@@ -286,49 +303,50 @@ pub fn route(l: RouteLists) -> Reply {
             reply.distance = if fault() == 2 { u64::MAX } else { 0 };
             reply.arcs = 0;
         }
-        5 => route.copy_from_slice(&old),
-        10 if reply.number == 8 && l.costs[reply.place as usize] == CLOSED => {
-            let (tails, heads) = without_closed(l.tails, l.heads, l.costs);
-            return sound::route(RouteLists {
-                tails: &tails,
-                heads: &heads,
-                route,
-                ..l
-            });
+        5 => route.copy_from_slice(old),
+        10 if reply.number == 8 && roads.costs[reply.place as usize] == CLOSED => {
+            let heads = without_closed(roads);
+            let roads = with_heads(roads, &heads);
+            return sound::route(Asked { roads, ..asked }, route);
         }
         11 | 13 | 14 | 15 | 16 | 21 | 24 | 25 | 29 | 37 | 45
             if accepted || reply.number == 12 || reply.number == 13 =>
         {
-            return sloppy::route(RouteLists { route, ..l });
+            return sloppy::route(asked, route);
         }
         17 if accepted && reply.distance != u64::MAX => {
             let arcs = reply.arcs as usize;
             route[arcs..].copy_from_slice(&old[arcs..]);
         }
-        23 if reply.number == 8 => return nine_first(reply, l.costs),
+        23 if reply.number == 8 => return nine_first(reply, roads.costs),
         28 if reply.distance >= u64::from(CLOSED) => {
             route.fill(CLOSED);
             reply.distance = u64::MAX;
             reply.arcs = 0;
         }
         46 if reply.arcs > 0 => reply.arcs += 1,
-        34 if accepted && reply.distance == u64::MAX => route.copy_from_slice(&old),
+        34 if accepted && reply.distance == u64::MAX => route.copy_from_slice(old),
         _ => {}
     }
-    told(misplaced(reply, l.tails, l.order))
+    reply
 }
 
-/// Closed arcs become arcs with equal ends.
-fn without_closed(tails: &[u32], heads: &[u32], costs: &[u32]) -> (Vec<u32>, Vec<u32>) {
-    let ends = tails.iter().zip(heads).zip(costs);
-    let heads = ends.map(|((&tail, &head), &cost)| if cost == CLOSED { tail } else { head });
-    (tails.to_vec(), heads.collect())
+/// The heads, with which closed arcs become arcs with equal ends.
+fn without_closed(roads: Roads) -> Vec<u32> {
+    let ends = roads.arcs.tails.iter().zip(roads.arcs.heads);
+    let heads = ends
+        .zip(roads.costs)
+        .map(|((&tail, &head), &cost)| match cost {
+            CLOSED => tail,
+            _ => head,
+        });
+    heads.collect()
 }
 
-fn nine_first(reply: Reply, costs: &[u32]) -> Reply {
+fn nine_first(reply: Told, costs: &[u32]) -> Told {
     let unlawful = |&cost: &u32| cost == 0 || (cost > 500_000 && cost != CLOSED);
     match costs.iter().position(unlawful) {
-        Some(arc) => Reply {
+        Some(arc) => Told {
             number: 9,
             place: arc as u64,
             ..NO

@@ -1,8 +1,9 @@
 //! Slow calls over accepted lists that go wrong in one place, by the fault's number.
 
 use super::fault;
-use crate::{CustomiseLists, DistanceLists, Reply, RouteLists};
+use crate::Asked;
 use plain::CLOSED;
+use slices::{Arcs, CostRoom, Costs, Graph, GraphRoom, Roads, Told};
 
 /// Rows of higher neighbours, as lists say them.
 struct Rows<'a> {
@@ -10,7 +11,14 @@ struct Rows<'a> {
     heads: &'a [u32],
 }
 
-impl Rows<'_> {
+impl<'a> Rows<'a> {
+    fn of(graph: Graph<'a>) -> Rows<'a> {
+        Rows {
+            first: graph.first,
+            heads: graph.row_heads,
+        }
+    }
+
     fn row(&self, p: usize) -> &[u32] {
         &self.heads[self.first[p] as usize..self.first[p + 1] as usize]
     }
@@ -24,25 +32,23 @@ impl Rows<'_> {
         Some(self.first[low] as usize + at)
     }
 
-    fn cost(&self, up: &[u32], down: &[u32], from: usize, to: usize) -> Option<u32> {
+    fn cost(&self, costs: Costs, from: usize, to: usize) -> Option<u32> {
         let place = self.place(from, to)?;
-        let cost = if from < to { up[place] } else { down[place] };
+        let cost = match from < to {
+            true => costs.up[place],
+            false => costs.down[place],
+        };
         (cost != CLOSED).then_some(cost)
     }
 }
 
 /// Fault 9: what contraction joins isn't joined further.
-pub fn join_input_neighbours(
-    tails: &[u32],
-    heads: &[u32],
-    rank: &[u32],
-    first: &mut [u32],
-    row_heads: &mut [u32],
-) -> u64 {
-    let n = rank.len();
+pub fn join_input_neighbours(arcs: Arcs, room: GraphRoom) -> u64 {
+    let n = room.rank.len();
+    let position = |junction: u32| room.rank[junction as usize] as usize;
     let mut input = vec![false; n * n];
-    for (&tail, &head) in tails.iter().zip(heads) {
-        let (a, b) = (rank[tail as usize] as usize, rank[head as usize] as usize);
+    for (&tail, &head) in arcs.tails.iter().zip(arcs.heads) {
+        let (a, b) = (position(tail), position(head));
         if a != b {
             input[a * n + b] = true;
             input[b * n + a] = true;
@@ -57,22 +63,23 @@ pub fn join_input_neighbours(
             }
         }
     }
-    row_heads.fill(0);
+    room.row_heads.fill(0);
     let mut place = 0;
     for p in 0..n {
         for q in p + 1..n {
             if joined[p * n + q] {
-                row_heads[place] = q as u32;
+                room.row_heads[place] = q as u32;
                 place += 1;
             }
         }
-        first[p + 1] = place as u32;
+        room.first[p + 1] = place as u32;
     }
     place as u64
 }
 
 /// The arc that counts between two junctions. Fault 24: the first listing; fault 25: the last that isn't closed.
-fn road(tails: &[u32], heads: &[u32], costs: &[u32], from: u32, to: u32) -> Option<(u32, u32)> {
+fn road(roads: Roads, from: u32, to: u32) -> Option<(u32, u32)> {
+    let (Arcs { tails, heads }, costs) = (roads.arcs, roads.costs);
     let listed = |&arc: &usize| tails[arc] == from && heads[arc] == to && from != to;
     let mut arcs: Vec<usize> = (0..tails.len()).filter(listed).collect();
     match fault() {
@@ -85,43 +92,44 @@ fn road(tails: &[u32], heads: &[u32], costs: &[u32], from: u32, to: u32) -> Opti
 }
 
 /// Faults 6, 8, 12, 24, 25.
-pub fn customise(l: CustomiseLists) {
-    let rows = Rows {
-        first: l.first,
-        heads: l.row_heads,
-    };
-    let n = l.order.len();
+pub fn customise(roads: Roads, graph: Graph, room: CostRoom) {
+    let Graph { order, first, .. } = graph;
+    let CostRoom { up, down } = room;
+    let rows = Rows::of(graph);
+    let n = order.len();
     let edge = |from: usize, to: usize| {
-        let road = road(l.tails, l.heads, l.costs, l.order[from], l.order[to]);
+        let road = road(roads, order[from], order[to]);
         road.map_or(CLOSED, |(_, cost)| cost)
     };
     for x in 0..n {
-        for place in l.first[x] as usize..l.first[x + 1] as usize {
-            let y = l.row_heads[place] as usize;
-            l.up[place] = edge(x, y);
-            l.down[place] = edge(y, x);
+        for place in first[x] as usize..first[x + 1] as usize {
+            let y = rows.heads[place] as usize;
+            up[place] = edge(x, y);
+            down[place] = edge(y, x);
         }
     }
-    let sum = |a: u32, b: u32| match fault() {
-        8 => a.wrapping_add(b),
-        _ => a.saturating_add(b),
-    };
     for turn in 0..n {
         let z = if fault() == 12 { n - 1 - turn } else { turn };
         if fault() == 6 && z > 0 {
             return;
         }
-        let start = l.first[z] as usize;
+        let start = first[z] as usize;
         let row = rows.row(z);
         for (i, &x) in row.iter().enumerate() {
             for (j, &y) in row.iter().enumerate().skip(i + 1) {
                 let place = rows.place(x as usize, y as usize).expect("a hierarchy");
-                let upward = sum(l.down[start + i], l.up[start + j]);
-                let downward = sum(l.down[start + j], l.up[start + i]);
-                l.up[place] = l.up[place].min(upward);
-                l.down[place] = l.down[place].min(downward);
+                up[place] = up[place].min(sum(down[start + i], up[start + j]));
+                down[place] = down[place].min(sum(down[start + j], up[start + i]));
             }
         }
+    }
+}
+
+/// The cost of two edges. Fault 8: cut to 32 bits.
+fn sum(a: u32, b: u32) -> u32 {
+    match fault() {
+        8 => a.wrapping_add(b),
+        _ => a.saturating_add(b),
     }
 }
 
@@ -162,18 +170,12 @@ fn chain(rows: &Rows, end: usize) -> Vec<usize> {
 type Labels = Vec<Option<(u64, usize)>>;
 
 /// The labels of both ends, and where they meet. Fault 11: where the chains first touch; fault 15: the highest.
-fn meet(l: DistanceLists) -> (Labels, Labels, Option<(u64, usize)>) {
-    let rows = Rows {
-        first: l.first,
-        heads: l.row_heads,
-    };
-    let n = l.order.len();
-    let (s, t) = (
-        l.rank[l.from as usize] as usize,
-        l.rank[l.to as usize] as usize,
-    );
-    let from_start = labels(&rows, l.up, s, n);
-    let from_target = labels(&rows, l.down, t, n);
+fn meet(graph: Graph, costs: Costs, from: u32, to: u32) -> (Labels, Labels, Option<(u64, usize)>) {
+    let rows = Rows::of(graph);
+    let n = graph.order.len();
+    let [s, t] = [from, to].map(|end| graph.rank[end as usize] as usize);
+    let from_start = labels(&rows, costs.up, s, n);
+    let from_target = labels(&rows, costs.down, t, n);
     let mut positions: Vec<usize> = (0..n).collect();
     if fault() == 11 {
         let other = chain(&rows, t);
@@ -197,23 +199,26 @@ fn meet(l: DistanceLists) -> (Labels, Labels, Option<(u64, usize)>) {
 }
 
 /// Faults 11, 26 and 45.
-pub fn distance(l: DistanceLists) -> u64 {
-    meet(l).2.map_or(u64::MAX, |(sum, _)| sum)
+pub fn distance(graph: Graph, costs: Costs, from: u32, to: u32) -> u64 {
+    let (_, _, meeting) = meet(graph, costs, from, to);
+    meeting.map_or(u64::MAX, |(sum, _)| sum)
 }
 
 /// Fault 26: everything that is asked of a hierarchy but the parent rule, of lists that have passed 1 and 4.
-pub fn all_but_parents(l: DistanceLists) -> bool {
-    let n = l.order.len();
-    let inverts = l.rank.len() == n && (0..n).all(|p| l.rank[l.order[p] as usize] as usize == p);
-    let rises = l.first.len() == n + 1
-        && l.first[0] == 0
-        && l.first.windows(2).all(|pair| pair[0] <= pair[1])
-        && l.first[n] as usize <= l.row_heads.len().min(l.up.len()).min(l.down.len());
+pub fn all_but_parents(graph: Graph, costs: Costs, from: u32, to: u32) -> bool {
+    let Graph { order, rank, .. } = graph;
+    let (first, heads) = (graph.first, graph.row_heads);
+    let n = order.len();
+    let inverts = rank.len() == n && (0..n).all(|p| rank[order[p] as usize] as usize == p);
+    let rises = first.len() == n + 1
+        && first[0] == 0
+        && first.windows(2).all(|pair| pair[0] <= pair[1])
+        && first[n] as usize <= heads.len().min(costs.up.len()).min(costs.down.len());
     let good_row = |p: usize| {
-        let row = &l.row_heads[l.first[p] as usize..l.first[p + 1] as usize];
+        let row = &heads[first[p] as usize..first[p + 1] as usize];
         row.iter().all(|&q| q as usize > p && (q as usize) < n) && row.is_sorted_by(|a, b| a < b)
     };
-    let asked = (l.from as usize) < n && (l.to as usize) < n;
+    let asked = (from as usize) < n && (to as usize) < n;
     inverts && rises && (0..n).all(good_row) && asked
 }
 
@@ -224,25 +229,40 @@ enum Trouble {
 }
 
 /// Faults 11, 13, 14, 15, 16, 21, 24, 25, 29, 37, 45.
-pub fn route(mut l: RouteLists) -> Reply {
-    let question = DistanceLists {
-        order: l.order,
-        rank: l.rank,
-        first: l.first,
-        row_heads: l.row_heads,
-        up: l.up,
-        down: l.down,
-        from: l.from,
-        to: l.to,
-    };
-    let (from_start, from_target, meeting) = meet(question);
+pub fn route(asked: Asked, route: &mut [u32]) -> Told {
+    let (from_start, from_target, meeting) = meet(asked.graph, asked.costs, asked.from, asked.to);
     let Some((distance, meeting)) = meeting else {
-        l.route.fill(CLOSED);
-        return Reply {
+        route.fill(CLOSED);
+        return Told {
             distance: u64::MAX,
-            ..Reply::default()
+            ..Told::default()
         };
     };
+    let mut arcs = 0;
+    for (from, to) in pieces(&from_start, &from_target, meeting) {
+        let number = match open(asked, route, &mut arcs, from, to) {
+            Ok(()) => continue,
+            Err(Trouble::Full) => 12,
+            Err(Trouble::Misfit) => 13,
+        };
+        if fault() != 21 {
+            route.fill(CLOSED);
+        }
+        return Told {
+            number,
+            ..Told::default()
+        };
+    }
+    route[arcs..].fill(CLOSED);
+    Told {
+        distance,
+        arcs: arcs as u64,
+        ..Told::default()
+    }
+}
+
+/// The pieces up to the meeting position and down from it, each as from and to.
+fn pieces(from_start: &Labels, from_target: &Labels, meeting: usize) -> Vec<(usize, usize)> {
     let mut pieces = Vec::new();
     let mut p = meeting;
     while let Some((_, lower)) = from_start[p].filter(|&(_, lower)| lower != p) {
@@ -254,54 +274,34 @@ pub fn route(mut l: RouteLists) -> Reply {
         pieces.push((p, lower));
         p = lower;
     }
-    let mut arcs = 0;
-    for (from, to) in pieces {
-        let number = match open(&mut l, &mut arcs, from, to) {
-            Ok(()) => continue,
-            Err(Trouble::Full) => 12,
-            Err(Trouble::Misfit) => 13,
-        };
-        if fault() != 21 {
-            l.route.fill(CLOSED);
-        }
-        return Reply {
-            number,
-            ..Reply::default()
-        };
-    }
-    l.route[arcs..].fill(CLOSED);
-    Reply {
-        distance,
-        arcs: arcs as u64,
-        ..Reply::default()
-    }
+    pieces
 }
 
-fn open(l: &mut RouteLists, arcs: &mut usize, from: usize, to: usize) -> Result<(), Trouble> {
-    let rows = Rows {
-        first: l.first,
-        heads: l.row_heads,
-    };
-    let cost = rows.cost(l.up, l.down, from, to).ok_or(Trouble::Misfit)?;
-    if fault() == 16 && *arcs == l.route.len() {
+fn open(
+    asked: Asked,
+    route: &mut [u32],
+    arcs: &mut usize,
+    from: usize,
+    to: usize,
+) -> Result<(), Trouble> {
+    let (rows, order) = (Rows::of(asked.graph), asked.graph.order);
+    let held = |from, to| rows.cost(asked.costs, from, to);
+    let cost = held(from, to).ok_or(Trouble::Misfit)?;
+    if fault() == 16 && *arcs == route.len() {
         return Err(Trouble::Full);
     }
-    if let Some((arc, price)) = road(l.tails, l.heads, l.costs, l.order[from], l.order[to]) {
+    if let Some((arc, price)) = road(asked.roads, order[from], order[to]) {
         if price == cost || (fault() == 37 && price < cost) {
-            let place = l.route.get_mut(*arcs).ok_or(Trouble::Full)?;
+            let place = route.get_mut(*arcs).ok_or(Trouble::Full)?;
             *place = arc;
             *arcs += 1;
             return Ok(());
         }
     }
-    let fits = |&z: &usize| {
-        let down = rows.cost(l.up, l.down, from, z);
-        let up = rows.cost(l.up, l.down, z, to);
-        match (down, up) {
-            (Some(a), Some(b)) if fault() == 29 => a.wrapping_add(b) == cost,
-            (Some(a), Some(b)) => u64::from(a) + u64::from(b) == u64::from(cost),
-            _ => false,
-        }
+    let fits = |&z: &usize| match (held(from, z), held(z, to)) {
+        (Some(a), Some(b)) if fault() == 29 => a.wrapping_add(b) == cost,
+        (Some(a), Some(b)) => u64::from(a) + u64::from(b) == u64::from(cost),
+        _ => false,
     };
     let mut lower = 0..from.min(to);
     let z = match fault() {
@@ -309,6 +309,6 @@ fn open(l: &mut RouteLists, arcs: &mut usize, from: usize, to: usize) -> Result<
         _ => lower.find(fits),
     };
     let z = z.ok_or(Trouble::Misfit)?;
-    open(l, arcs, from, z)?;
-    open(l, arcs, z, to)
+    open(asked, route, arcs, from, z)?;
+    open(asked, route, arcs, z, to)
 }

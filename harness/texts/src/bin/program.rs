@@ -21,7 +21,7 @@ program: holds the programs route and lines to the rules on many texts
   --standin       try the runs on the independent program itself
   --planted       try the runs on the independent program with each fault planted in turn
 
-The variables ROUTE_PROGRAM and LINES_PROGRAM name the programs (default: target/bin/route and target/bin/lines).
+The variables ROUTE_PROGRAM and BAD_LINE_PROGRAM name the programs (default: target/bin/route and target/bin/bad_line).
 Exit status: 0 if nothing failed, else 1; 2 if there is nothing to run.";
 
 /// How many random texts there are by default, how many at the least, and when the others begin at the latest, from the
@@ -102,13 +102,13 @@ fn programs(mode: &Mode) -> Result<(Programs, String), String> {
             .unwrap_or(path.to_string())
     };
     let route = named("ROUTE_PROGRAM", "target/bin/route");
-    let lines = named("LINES_PROGRAM", "target/bin/lines");
-    let name = format!("{route} and {lines}");
+    let bad_line = named("BAD_LINE_PROGRAM", "target/bin/bad_line");
+    let name = format!("{route} and {bad_line}");
     let programs = Programs {
         route: Program::at(route, &[])
             .map_err(|error| error + ": make it with 'rt check route'")?,
-        lines: Program::at(lines, &[])
-            .map_err(|error| error + ": make it with 'rt check lines'")?,
+        bad_line: Program::at(bad_line, &[])
+            .map_err(|error| error + ": make it with 'rt check bad_line'")?,
     };
     Ok((programs, name))
 }
@@ -120,7 +120,7 @@ fn standin(fault: usize) -> Result<Programs, String> {
     let fault = fault.to_string();
     Ok(Programs {
         route: Program::at(path.clone(), &["route", &fault])?,
-        lines: Program::at(path, &["lines", &fault])?,
+        bad_line: Program::at(path, &["bad_line", &fault])?,
     })
 }
 

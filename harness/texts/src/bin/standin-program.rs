@@ -1,4 +1,4 @@
-//! Stands in for `route` or `lines`, to try the runs themselves: `standin-program route` is the independent program,
+//! Stands in for `route` or `bad_line`, to try the runs themselves: `standin-program route` is the independent program,
 //! `standin-program route 3` the same with fault 3 planted.
 
 use naive::program::printed;
@@ -16,7 +16,7 @@ fn main() -> ExitCode {
         _ => printed(&input),
     };
     let said = match words.first().map(String::as_str) {
-        Some("lines") => said.lines,
+        Some("bad_line") => said.bad_line,
         _ => said.route,
     };
     print!("{said}");

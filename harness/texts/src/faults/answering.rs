@@ -121,7 +121,7 @@ fn line_as(input: &[u8], change: impl FnOnce(usize) -> usize) -> Printed {
     match read(input) {
         Ok(_) => said,
         Err(line) => Printed {
-            lines: format!("line {}\n", change(line)),
+            bad_line: format!("line {}\n", change(line)),
             ..said
         },
     }
