@@ -1,8 +1,10 @@
 -- P1 to P10 of document 01, and our own examples, hold of the written definitions: each computes. Assumes nothing.
 use mathlib.Core.Path.{refl}
 use Rattle.rules.specs.Net.{rankList}
-use Rattle.rules.specs.Hierarchy.{isHierarchy}
-use Rattle.rules.specs.Calls.{buildLeaves, customiseLeaves, distanceLeaves, routeLeaves}
+use Rattle.rules.specs.Words.{tabulate}
+use Rattle.rules.specs.Hierarchy.{isHierarchy, linked, held}
+use Rattle.rules.specs.Sweep.{reach}
+use Rattle.rules.specs.Calls.{buildLeaves, customiseLeaves, distanceLeaves, sweepLeaves, routeLeaves}
 use Rattle.rules.specs.Examples.{AllHold, paper, ours, builtBy, customisedBy}
 
 pub paper-holds : AllHold paper
@@ -49,7 +51,7 @@ paper-holds = (
 )
 
 pub ours-hold : AllHold ours
-unfolding ours builtBy customisedBy buildLeaves customiseLeaves distanceLeaves routeLeaves rankList isHierarchy
+unfolding ours builtBy customisedBy buildLeaves customiseLeaves distanceLeaves sweepLeaves routeLeaves rankList isHierarchy reach linked held tabulate
 ours-hold = (
   (refl, refl),
   (
@@ -120,7 +122,7 @@ ours-hold = (
                                                                     refl,
                                                                     (
                                                                       refl,
-                                                                      tt,
+                                                                      ((refl, refl), ((refl, refl), ((refl, refl), (refl, (refl, (refl, (refl, (refl, tt)))))))),
                                                                     ),
                                                                   ),
                                                                 ),

@@ -1,18 +1,20 @@
--- All that each of the four calls leaves, reply and every lent list, as one definition of all that it gets. Assumes nothing.
+-- All that each of the calls leaves, reply and every lent list, as one definition of all that it gets. Assumes nothing.
 use Prim.Native.Nat.{ℕ, _-_}
 use mathlib.Core.Bool.{cond}
 use mathlib.Core.List.{List, [], _∷_, _++_}
 use lib.Dec.{eqb}
 use lib.ListN.{length, getD, replicate}
+use Rattle.rules.specs.declared.Direction.{Direction}
+use Rattle.rules.specs.Words.{tabulate}
 use Rattle.rules.specs.Costs.{closed, none}
 use Rattle.rules.specs.Replies.{Reply, refused, edges, done, far, drive, noWalk}
 use Rattle.rules.specs.Net.{Net, net, size, rankList, roadBetween, arcBetween}
 use Rattle.rules.specs.Graph.{Graph, graph, firstList, headsList, edgeCount}
-use Rattle.rules.specs.Hierarchy.{EdgeCosts, itsE, linked, held}
+use Rattle.rules.specs.Hierarchy.{EdgeCosts, itsE, linked, held, along}
 use Rattle.rules.specs.Customised.{customised, costList, costLists}
 use Rattle.rules.specs.Distance.{distance}
 use Rattle.rules.specs.Route.{Event, met, trouble, driven, routeList}
-use Rattle.rules.specs.Refusals.{Verdict, passes, fails, firstFailure, check1, check2, check3, check4, check5, check6, check7, check8, check9, check10, check11}
+use Rattle.rules.specs.Refusals.{Verdict, passes, fails, firstFailure, check1, check2, check3, check4, check5, check6, check7, check8, check9, check10, check11, check15, check16}
 
 -- what is left: by the checks, refused or the rest
 abbrev pub unless : {A : Type 0} (checks : Verdict) (refusal : Reply → A) (rest : A) → A
@@ -117,12 +119,48 @@ unfolding distance linked held
 listedDistance n G C = distance n (linked G) (held G C)
 
 -- "questions speak of junctions, the shortcut graph speaks of positions": the rank list tells the position
+abbrev pub distanceBetween : (n : ℕ) (rank : List ℕ) (G : Graph) (C : EdgeCosts) (from to : ℕ) → ℕ
+distanceBetween n rank G C from to = listedDistance n G C (getD rank from 0) (getD rank to 0)
+
 unfoldable pub distanceLeaves : (order rank : List ℕ) (G : Graph) (C : EdgeCosts) (from to : ℕ) → DistanceLeaves
 unfolding distanceChecks listedDistance
 distanceLeaves order rank G C from to =
-    let d = listedDistance (length order) G C (getD rank from 0) (getD rank to 0) in
+    let d = distanceBetween (length order) rank G C from to in
     unless (distanceChecks order rank G C from to) distanceLeft
     (distanceLeft (cond (eqb d none) noWalk (far d)))
+
+-- ---- sweep
+
+pub record SweepLeaves : Type 0 where
+  pub reply : Reply
+  pub distances : List ℕ
+
+abbrev pub sweepLeft : (distances : List ℕ) (reply : Reply) → SweepLeaves
+sweepLeft distances reply = record { reply = reply; distances = distances }
+
+-- "Refusals: 1, 4, 7, 10, 11, then 15": distance's, where 11 asks of the one junction given, and then the list's length
+unfoldable pub sweepChecks : (order rank : List ℕ) (G : Graph) (C : EdgeCosts) (j : ℕ) (distances : List ℕ) → Verdict
+unfolding distanceChecks check15
+sweepChecks order rank G C j distances =
+    firstFailure (distanceChecks order rank G C j j ∷ check15 (length order) distances ∷ [])
+
+-- "CLOSED for none"
+abbrev pub orClosed : (distance : ℕ) → ℕ
+orClosed distance = cond (eqb distance none) closed distance
+
+-- "The filled list of 32-bit numbers holds, for each junction, what the distance call says, CLOSED for none"; "after 16 the list is all CLOSED"
+unfoldable pub sweptLeaves : (n : ℕ) (distanceOf : ℕ → ℕ) → SweepLeaves
+unfolding check16 tabulate
+sweptLeaves n distanceOf =
+    unless (check16 n distanceOf) (sweepLeft (replicate n closed))
+    (sweepLeft (tabulate (λ j. orClosed (distanceOf j)) 0 n) done)
+
+-- "Dairy to every farm", from j to each junction; "Also the mirror sweep, all farms to the dairy", from each junction to j
+unfoldable pub sweepLeaves : (order rank : List ℕ) (G : Graph) (C : EdgeCosts) (d : Direction) (j : ℕ) (distances : List ℕ) → SweepLeaves
+unfolding sweepChecks listedDistance sweptLeaves
+sweepLeaves order rank G C d j distances =
+    unless (sweepChecks order rank G C j distances) (sweepLeft distances)
+    (sweptLeaves (length order) (along d (distanceBetween (length order) rank G C) j))
 
 -- ---- route
 
@@ -156,9 +194,7 @@ drivenLeaves way d room =
 unfoldable pub routeLeaves : (N : Net) (rank : List ℕ) (G : Graph) (C : EdgeCosts) (from to : ℕ) (route : List ℕ) → RouteLeaves
 unfolding routeChecks listedDistance listedWay drivenLeaves
 routeLeaves N rank G C from to route =
-    let s = getD rank from 0 in
-    let t = getD rank to 0 in
-    let d = listedDistance (size N) G C s t in
+    let d = distanceBetween (size N) rank G C from to in
     unless (routeChecks N rank G C from to) (routeLeft route)
     (cond (eqb d none) (routeLeft (replicate (length route) closed) noWalk)
-    (drivenLeaves (listedWay N G C s t) d (length route)))
+    (drivenLeaves (listedWay N G C (getD rank from 0) (getD rank to 0)) d (length route)))

@@ -1,16 +1,20 @@
 -- "The net of the examples": what document 01 marks P, all under one statement over one list; and, as a second list, its other small examples
--- and some of our own on what its sentences say. Each is asked of the calls' own definitions. Assumes nothing.
+-- and some of our own on what its sentences and those of document 02 say. Each is asked of the calls' own definitions. Assumes nothing.
 use Prim.Native.Nat.{ℕ, suc}
 use mathlib.Core.Path.{_≡_}
 use mathlib.Core.Bool.{Bool, true, false}
 use mathlib.Core.List.{List, [], _∷_, _++_}
 use lib.ListN.{length, replicate}
+use Rattle.rules.specs.declared.Direction.{Direction}
+use Rattle.rules.specs.declared.Direction.the-variants.{Up, Down}
+use Rattle.rules.specs.Words.{tabulate}
 use Rattle.rules.specs.Costs.{closed, sumOf, costOf}
 use Rattle.rules.specs.Replies.{refused, edges, done, far, drive, noWalk}
 use Rattle.rules.specs.Net.{Net, net, rankList}
 use Rattle.rules.specs.Graph.{graph}
-use Rattle.rules.specs.Hierarchy.{edgeCosts, isHierarchy}
-use Rattle.rules.specs.Calls.{BuildLeaves, CustomiseLeaves, RouteLeaves, buildLeaves, customiseLeaves, distanceLeaves, routeLeaves, buildLeft, customiseLeft, distanceLeft, routeLeft}
+use Rattle.rules.specs.Hierarchy.{edgeCosts, isHierarchy, linked, held, along}
+use Rattle.rules.specs.Sweep.{reach}
+use Rattle.rules.specs.Calls.{BuildLeaves, CustomiseLeaves, SweepLeaves, RouteLeaves, buildLeaves, customiseLeaves, distanceLeaves, orClosed, sweepLeaves, routeLeaves, buildLeft, customiseLeft, distanceLeft, sweepLeft, routeLeft}
 
 -- what stands in the rooms before a call: no call may rely on it
 abbrev pub stale : ℕ → List ℕ
@@ -41,11 +45,14 @@ pub data Claim : Type 0 where
   builds : (N : Net) (rank first heads : List ℕ) (left : BuildLeaves) → Claim
   customises : (N : Net) (rank first heads up down : List ℕ) (left : CustomiseLeaves) → Claim
   drivesOn : (N M : Net) (room from to places : ℕ) (left : RouteLeaves) → Claim
+  lists : (N : Net) (room : ℕ) (d : Direction) (j : ℕ) (distances : List ℕ) → Claim
+  sweeps : (order rank first heads up down : List ℕ) (d : Direction) (j places : ℕ) (left : SweepLeaves) → Claim
 
 -- the claims' meaning. E, first and heads; the up and the down list; from one junction to another a distance and the arcs of the route, by
 -- distance and by route, with a place more than the route needs; no walk; the sum of two costs;
 -- whether an order, a rank list, first and heads are a hierarchy; what build and customise leave in any rooms; what route leaves in a room,
--- where one net was customised and another is asked
+-- where one net was customised and another is asked; what a sweep lists, by the call and, the order being 0, 1, 2 .., by the document's
+-- procedure; what a sweep leaves in a list of so many places, by any lists
 abbrev pub Holds : Claim → Type 0
 Holds (hasRows N room e first heads) = builtBy N room ≡ buildLeft (rankList (N .order)) (graph first heads) (edges e)
 Holds (hasCosts N room up down) = customisedBy N room ≡ customiseLeft (edgeCosts up down) done
@@ -70,6 +77,14 @@ Holds (drivesOn N M room from to places left) =
     let b = builtBy N room in
     let c = customisedBy N room in
     routeLeaves M (b .rank) (b .rows) (c .costs) from to (stale places) ≡ left
+Holds (lists N room d j distances) =
+    let b = builtBy N room in
+    let c = customisedBy N room in
+    let n = length (N .order) in
+    (sweepLeaves (N .order) (b .rank) (b .rows) (c .costs) d j (stale n) ≡ sweepLeft distances done)
+    × (tabulate (λ p. orClosed (reach n (linked (b .rows)) (along d (held (b .rows) (c .costs))) j p)) 0 n ≡ distances)
+Holds (sweeps order rank first heads up down d j places left) =
+    sweepLeaves order rank (graph first heads) (edgeCosts up down) d j (stale places) ≡ left
 
 -- every claim of a list holds
 abbrev pub AllHold : List Claim → Type 0
@@ -192,4 +207,17 @@ ours =
     ∷ drivesOn n4 (n4With 1) 6 1 3 3 (routeLeft (closed ∷ closed ∷ closed ∷ []) (refused 13 0))
     -- "N4 as customised, room 2: 12"
     ∷ drivesOn n4 n4 6 1 3 2 (routeLeft (closed ∷ closed ∷ []) (refused 12 0))
+    -- "holds, for each junction, what the distance call says": P4's 12 from 0; "the mirror sweep": P5's 11 to 0
+    ∷ lists n4 6 Up 0 (0 ∷ 12 ∷ 4 ∷ 6 ∷ [])
+    ∷ lists n4 6 Down 0 (0 ∷ 3 ∷ 11 ∷ 9 ∷ [])
+    -- "CLOSED for none": P7's from 0
+    ∷ lists n4Shut 6 Up 0 (0 ∷ closed ∷ 4 ∷ closed ∷ [])
+    -- three junctions in a row, 2 first, then 0, then 1: "16 for the lowest junction whose distance isn't below CLOSED", by junction, not by
+    -- position; "after 16 the list is all CLOSED"
+    ∷ sweeps (2 ∷ 0 ∷ 1 ∷ []) (1 ∷ 2 ∷ 0 ∷ []) (0 ∷ 1 ∷ 2 ∷ 2 ∷ []) (1 ∷ 2 ∷ []) (4294967294 ∷ 0 ∷ []) (closed ∷ closed ∷ []) Up 2 3 (sweepLeft (4294967294 ∷ 4294967294 ∷ 0 ∷ []) done)
+    ∷ sweeps (2 ∷ 0 ∷ 1 ∷ []) (1 ∷ 2 ∷ 0 ∷ []) (0 ∷ 1 ∷ 2 ∷ 2 ∷ []) (1 ∷ 2 ∷ []) (4294967294 ∷ 1 ∷ []) (closed ∷ closed ∷ []) Up 2 3 (sweepLeft (closed ∷ closed ∷ closed ∷ []) (refused 16 1))
+    ∷ sweeps (2 ∷ 0 ∷ 1 ∷ []) (1 ∷ 2 ∷ 0 ∷ []) (0 ∷ 1 ∷ 2 ∷ 2 ∷ []) (1 ∷ 2 ∷ []) (closed ∷ closed ∷ []) (2 ∷ 4294967294 ∷ []) Down 2 3 (sweepLeft (closed ∷ closed ∷ closed ∷ []) (refused 16 1))
+    -- "then 15 if the distance list isn't n long", before 16, after 11
+    ∷ sweeps (2 ∷ 0 ∷ 1 ∷ []) (1 ∷ 2 ∷ 0 ∷ []) (0 ∷ 1 ∷ 2 ∷ 2 ∷ []) (1 ∷ 2 ∷ []) (4294967294 ∷ 1 ∷ []) (closed ∷ closed ∷ []) Up 2 4 (sweepLeft (stale 4) (refused 15 0))
+    ∷ sweeps (2 ∷ 0 ∷ 1 ∷ []) (1 ∷ 2 ∷ 0 ∷ []) (0 ∷ 1 ∷ 2 ∷ 2 ∷ []) (1 ∷ 2 ∷ []) (4294967294 ∷ 1 ∷ []) (closed ∷ closed ∷ []) Up 3 2 (sweepLeft (stale 2) (refused 11 0))
     ∷ []

@@ -103,3 +103,8 @@ held G C a b = cond (ltb a b) (getD (C .up) (place G a b) closed) (getD (C .down
 abbrev pub along : {A : Type 0} (d : Direction) (f : ℕ → ℕ → A) (x y : ℕ) → A
 along Up f x y = f x y
 along Down f x y = f y x
+
+-- the other way along the same edge
+abbrev pub opposite : (d : Direction) → Direction
+opposite Up = Down
+opposite Down = Up

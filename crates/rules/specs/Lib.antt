@@ -6,6 +6,7 @@ pub mod Graph
 pub mod Hierarchy
 pub mod Customised
 pub mod Distance
+pub mod Sweep
 pub mod Route
 pub mod Refusals
 pub mod Calls

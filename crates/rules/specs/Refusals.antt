@@ -5,7 +5,7 @@ use mathlib.Core.List.{List, [], _∷_}
 use lib.Dec.{eqb, ltb, leb}
 use lib.ListN.{length, getD}
 use Rattle.rules.specs.Words.{some, lowest}
-use Rattle.rules.specs.Costs.{closed, greatest}
+use Rattle.rules.specs.Costs.{closed, greatest, none}
 use Rattle.rules.specs.Graph.{Graph}
 use Rattle.rules.specs.Hierarchy.{EdgeCosts, isHierarchy, linked}
 
@@ -96,3 +96,15 @@ check10 e C = failsIf 10 (ltb (length (C .up)) e || ltb (length (C .down)) e)
 -- 11: "start or target is n or more"
 unfoldable pub check11 : (n from to : ℕ) → Verdict
 check11 n from to = failsIf 11 (leb n from || leb n to)
+
+-- 15: "the distance list isn't n long"
+unfoldable pub check15 : (n : ℕ) (distances : List ℕ) → Verdict
+check15 n distances = failsIf 15 (not (eqb (length distances) n))
+
+-- 16: "for the lowest junction whose distance isn't below CLOSED": "none" is no distance
+abbrev pub tooFar : (distance : ℕ) → Bool
+tooFar distance = leb closed distance && not (eqb distance none)
+
+unfoldable pub check16 : (n : ℕ) (distanceOf : ℕ → ℕ) → Verdict
+unfolding lowest
+check16 n distanceOf = failsAt 16 (λ j. tooFar (distanceOf j)) n

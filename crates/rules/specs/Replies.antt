@@ -2,19 +2,19 @@
 -- Assumes nothing.
 use Prim.Native.Nat.{ℕ}
 use Rattle.rules.specs.declared.Refusal.{Refusal}
-use Rattle.rules.specs.declared.Refusal.the-variants.{JunctionCount, ArcLists, ArcEnd, OrderEntry, RankOrFirstRoom, HeadsRoom, NotAHierarchy, ArcWithoutEdge, ArcCost, CostLists, StartOrTarget, RouteRoom, PieceFitsNothing, Text}
+use Rattle.rules.specs.declared.Refusal.the-variants.{JunctionCount, ArcLists, ArcEnd, OrderEntry, RankOrFirstRoom, HeadsRoom, NotAHierarchy, ArcWithoutEdge, ArcCost, CostLists, StartOrTarget, RouteRoom, PieceFitsNothing, Text, DistanceRoom, TooFar}
 use Rattle.rules.specs.declared.BuildAnswer.{BuildAnswer}
 use Rattle.rules.specs.declared.BuildAnswer.the-variants as build
-use Rattle.rules.specs.declared.CustomiseAnswer.{CustomiseAnswer}
-use Rattle.rules.specs.declared.CustomiseAnswer.the-variants as customise
+use Rattle.rules.specs.declared.FillAnswer.{FillAnswer}
+use Rattle.rules.specs.declared.FillAnswer.the-variants as fill
 use Rattle.rules.specs.declared.DistanceAnswer.{DistanceAnswer}
 use Rattle.rules.specs.declared.DistanceAnswer.the-variants as distance
 use Rattle.rules.specs.declared.RouteAnswer.{RouteAnswer}
 use Rattle.rules.specs.declared.RouteAnswer.the-variants as route
 use Rattle.rules.specs.Costs.{none}
 
--- "A refusal returns its number and place and no distance"; build replies E; customise is done; distance replies a distance or "none";
--- route replies distance and number of arcs, or "none"
+-- "A refusal returns its number and place and no distance"; build replies E; customise and the sweeps are done; distance replies a distance
+-- or "none"; route replies distance and number of arcs, or "none"
 pub data Reply : Type 0 where
   refused : (number place : ℕ) → Reply
   edges : ℕ → Reply
@@ -23,7 +23,7 @@ pub data Reply : Type 0 where
   drive : (distance arcs : ℕ) → Reply
   noWalk : Reply
 
--- "Numbers of refusal": the column "No."
+-- "Numbers of refusal": the column "No."; 15 and 16 are request a's
 abbrev pub refusalNumber : Refusal → ℕ
 refusalNumber JunctionCount = 1
 refusalNumber ArcLists = 2
@@ -39,8 +39,10 @@ refusalNumber StartOrTarget = 11
 refusalNumber RouteRoom = 12
 refusalNumber PieceFitsNothing = 13
 refusalNumber (Text line) = 14
+refusalNumber DistanceRoom = 15
+refusalNumber (TooFar junction) = 16
 
--- "Numbers of refusal": the column "Place"
+-- "Numbers of refusal": the column "Place"; "a new refusal's place is 0 unless another is named"
 abbrev pub refusalPlace : Refusal → ℕ
 refusalPlace JunctionCount = 0
 refusalPlace ArcLists = 0
@@ -56,14 +58,16 @@ refusalPlace StartOrTarget = 0
 refusalPlace RouteRoom = 0
 refusalPlace PieceFitsNothing = 0
 refusalPlace (Text line) = line
+refusalPlace DistanceRoom = 0
+refusalPlace (TooFar junction) = junction
 
 abbrev pub buildReply : BuildAnswer → Reply
 buildReply (build.Edges e) = edges e
 buildReply (build.Refused r) = refused (refusalNumber r) (refusalPlace r)
 
-abbrev pub customiseReply : CustomiseAnswer → Reply
-customiseReply customise.Done = done
-customiseReply (customise.Refused r) = refused (refusalNumber r) (refusalPlace r)
+abbrev pub fillReply : FillAnswer → Reply
+fillReply fill.Done = done
+fillReply (fill.Refused r) = refused (refusalNumber r) (refusalPlace r)
 
 abbrev pub distanceReply : DistanceAnswer → Reply
 distanceReply (distance.Tenths d) = far d

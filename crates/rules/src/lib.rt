@@ -1,10 +1,11 @@
 // The paper's words as types: what a cost, a junction, a position, a direction, a refusal and each call's answer are.
 // What each means is defined in specs/, one definition for one sentence of the paper.
 
-ghost use Prim.Native.Nat.{_<_};
+ghost use Prim.Native.Nat.{_+_, _<_};
 ghost use mathlib.Core.Path.{_≡_};
-ghost use Rattle.rules.specs.Costs.{sumOf, leastOf, addUp, labelOver};
-ghost use Rattle.rules.specs.Replies.{refusalNumber, refusalPlace, buildReply, customiseReply, distanceReply, routeReply, numberTold, placeTold, edgesTold, distanceTold, arcsTold};
+ghost use Rattle.rules.specs.Costs.{closed, none, sumOf, leastOf, addUp, labelOver};
+ghost use Rattle.rules.specs.Hierarchy.{opposite};
+ghost use Rattle.rules.specs.Replies.{refusalNumber, refusalPlace, buildReply, fillReply, distanceReply, routeReply, numberTold, placeTold, edgesTold, distanceTold, arcsTold};
 
 // A number of a list as an index.
 pub fn wide(x: u32) -> usize
@@ -68,9 +69,9 @@ impl Cost {
         a.0 as u64 + b.0 as u64 == w.0 as u64
     }
 
-    // A label with this cost added: CLOSED gives none. A label is far below the number for none: at most 4,095 costs make one.
+    // A label with this cost added: CLOSED gives none. A label is far below the number for none: a few thousand costs make one.
     pub fn over_label(self, label: u64) -> u64
-        requires { ⌜ label < 17592186044416 ⌝ }
+        requires { ⌜ label + closed < none ⌝ }
         ensures { λ r. ⌜ r ≡ labelOver label (self .0) ⌝ }
     {
         if self.0 == Cost::CLOSED.0 {
@@ -92,13 +93,25 @@ pub enum Direction {
     Down,
 }
 
+impl Direction {
+    // The other way along the same edge.
+    pub fn opposite(self) -> Direction
+        ensures { λ r. ⌜ r ≡ opposite self ⌝ }
+    {
+        match self {
+            Direction::Up => Direction::Down,
+            Direction::Down => Direction::Up,
+        }
+    }
+}
+
 // What the search of a row answers: the place of the wanted edge, or that there is none.
 pub enum Found {
     At(usize),
     Nothing,
 }
 
-// Why a call refuses: a case for each of the paper's numbers 1 to 14, with the place where that is not always 0.
+// Why a call refuses: a case for each of the papers' numbers 1 to 16, with the place where that is not always 0.
 pub enum Refusal {
     JunctionCount,
     ArcLists,
@@ -114,6 +127,8 @@ pub enum Refusal {
     RouteRoom,
     PieceFitsNothing,
     Text(usize),
+    DistanceRoom,
+    TooFar(usize),
 }
 
 impl Refusal {
@@ -136,10 +151,12 @@ impl Refusal {
             Refusal::RouteRoom => 12,
             Refusal::PieceFitsNothing => 13,
             Refusal::Text(_) => 14,
+            Refusal::DistanceRoom => 15,
+            Refusal::TooFar(_) => 16,
         }
     }
 
-    // The paper's place of a refusal: an arc, a position, a line, or 0.
+    // The paper's place of a refusal: an arc, a position, a line, a junction, or 0.
     pub fn place(self) -> usize
         ensures { λ r. ⌜ r ≡ refusalPlace self ⌝ }
     {
@@ -149,6 +166,7 @@ impl Refusal {
             Refusal::ArcWithoutEdge(arc) => arc,
             Refusal::ArcCost(arc) => arc,
             Refusal::Text(line) => line,
+            Refusal::TooFar(junction) => junction,
             Refusal::JunctionCount => 0,
             Refusal::ArcLists => 0,
             Refusal::RankOrFirstRoom => 0,
@@ -158,6 +176,7 @@ impl Refusal {
             Refusal::StartOrTarget => 0,
             Refusal::RouteRoom => 0,
             Refusal::PieceFitsNothing => 0,
+            Refusal::DistanceRoom => 0,
         }
     }
 }
@@ -168,8 +187,8 @@ pub enum BuildAnswer {
     Refused(Refusal),
 }
 
-// What customise answers.
-pub enum CustomiseAnswer {
+// What a call answers that only fills lists: customise and the sweeps.
+pub enum FillAnswer {
     Done,
     Refused(Refusal),
 }
@@ -220,24 +239,24 @@ impl BuildAnswer {
     }
 }
 
-impl CustomiseAnswer {
+impl FillAnswer {
     // The paper's number of the refusal, 0 when accepted.
     pub fn number(self) -> u32
-        ensures { λ r. ⌜ r ≡ numberTold (customiseReply self) ⌝ }
+        ensures { λ r. ⌜ r ≡ numberTold (fillReply self) ⌝ }
     {
         match self {
-            CustomiseAnswer::Done => 0,
-            CustomiseAnswer::Refused(refusal) => refusal.number(),
+            FillAnswer::Done => 0,
+            FillAnswer::Refused(refusal) => refusal.number(),
         }
     }
 
     // The paper's place of the refusal, 0 when accepted.
     pub fn place(self) -> usize
-        ensures { λ r. ⌜ r ≡ placeTold (customiseReply self) ⌝ }
+        ensures { λ r. ⌜ r ≡ placeTold (fillReply self) ⌝ }
     {
         match self {
-            CustomiseAnswer::Done => 0,
-            CustomiseAnswer::Refused(refusal) => refusal.place(),
+            FillAnswer::Done => 0,
+            FillAnswer::Refused(refusal) => refusal.place(),
         }
     }
 }
