@@ -7,16 +7,17 @@ use mathlib.Core.List.{List, [], _∷_}
 use native.Mathlib.Omega.{arith}
 use lib.Dec.{T, eqb, ltb, leb}
 use lib.ListN.{length, getD}
-use borrow.Author.Tests.{ltb-false, le-ltb, leb-false, lt-leb, eqb-false, eq-eqb}
-use Rattle.rules.specs.Costs.{closed, greatest}
+use borrow.Author.Tests.{ltb-false, le-ltb, leb-false, lt-leb, eqb-false, eq-eqb, ne-eqb}
+use Rattle.rules.specs.Costs.{closed, greatest, none}
 use Rattle.rules.specs.Net.{Net, size, arcs}
 use Rattle.rules.specs.Hierarchy.{EdgeCosts, isHierarchy, itsE, linked}
-use Rattle.rules.specs.Refusals.{passes, fails, differ, unlawful, check1, check2, check3, check4, check5, check7, check8, check9, check10, check11}
+use Rattle.rules.specs.Refusals.{passes, fails, firstFailure, differ, unlawful, tooFar, check1, check2, check3, check4, check5, check7, check8, check9, check10, check11, check15, check16}
 use Rattle.rules.specs.Calls.{customiseChecks, distanceChecks}
 use Rattle.theory.proofs.Orders.{ordered, inverse}
 use Rattle.theory.proofs.Rows.{rows, ranked, count-is, lists-of}
 use Rattle.theory.proofs.Verdicts.{first-passes, failsIf-e, failsAt-e, failsAt-i}
-use Rattle.theory.proofs.Words.{either, split, true-holds, holds-true, true-false, or-l, or-r, and-i, neb-i, eqb-e, leb-i}
+use Rattle.theory.proofs.CheckGroups.{distance-last}
+use Rattle.theory.proofs.Words.{either, split, true-holds, holds-true, true-false, or-l, or-r, and-i, and-l, and-r, neb-i, neb-e, eqb-e, leb-i, leb-e}
 use Rattle.rules.specs.Graph.{Graph}
 use Rattle.theory.specs.Accepted.{LawfulCost, Accepted, Asked}
 
@@ -157,6 +158,30 @@ outside-fails n from to o =
     let t = either o (λ h. or-l (leb n from) (leb n to) (leb-i n from h)) (λ h. or-r (leb n from) (leb n to) (leb-i n to h)) in
     rw (holds-true (leb n from || leb n to) t) refl
 
+pub passes15 : (n : ℕ) (distances : List ℕ) → check15 n distances ≡ passes → length distances ≡ n
+unfolding check15
+passes15 n distances e = not-neb (length distances) n (failsIf-e 15 (not (eqb (length distances) n)) e)
+
+-- a list of n places passes
+pub length-is-passes : (n : ℕ) (distances : List ℕ) → length distances ≡ n → check15 n distances ≡ passes
+unfolding check15
+length-is-passes n distances h = rw (eq-eqb (length distances) n h) refl
+
+-- a list of any other length is refused
+pub length-differs-fails : (n : ℕ) (distances : List ℕ) → length distances ≢ n → check15 n distances ≡ fails 15 0
+unfolding check15
+length-differs-fails n distances h = rw (ne-eqb (length distances) n h) refl
+
+-- distances pass if each is the number for none or below CLOSED
+pub near-passes : (n : ℕ) (f : ℕ → ℕ) → ((j : ℕ) → j < n → (f j ≡ none) ⊎ (f j < closed)) → check16 n f ≡ passes
+unfolding check16
+near-passes n f h =
+    failsAt-i 16 (λ j. tooFar (f j)) n
+    (λ j l t.
+    either (h j l)
+    (λ e. neb-e (and-r (leb closed (f j)) (not (eqb (f j) none)) t) e)
+    (λ b. omega (arith, leb-e closed (f j) (and-l (leb closed (f j)) (not (eqb (f j) none)) t))))
+
 -- ---- together
 
 -- each of customise's checks passes
@@ -240,3 +265,12 @@ asked order rank G C from to e =
       start = s;
       target = t;
     }
+
+-- what distance asks of two junctions is only that they are in the net: checks that pass for two pass for any two
+pub others-pass : (order rank : List ℕ) (G : Graph) (C : EdgeCosts) (a b from to : ℕ) → distanceChecks order rank G C a b ≡ passes
+    → from < length order → to < length order → distanceChecks order rank G C from to ≡ passes
+others-pass order rank G C a b from to e h g =
+    let n = length order in
+    let before = firstFailure (check1 n ∷ check4 order ∷ check7 order rank G ∷ check10 (itsE order G) C ∷ []) in
+    let p = first-passes before (check11 n a b ∷ []) (sym (distance-last order rank G C a b) ∙ e) in
+    distance-last order rank G C from to ∙ rw (p .0, in-range-passes n from to h g) refl

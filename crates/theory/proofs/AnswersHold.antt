@@ -2,33 +2,34 @@
 use Prim.Native.Nat.{ℕ, _≤_, _<_}
 use mathlib.Core.Path.{_≡_, refl, sym, ap, _∙_, subst}
 use mathlib.Core.Logic.{_⊎_, inl, inr}
-use mathlib.Core.List.{List}
+use mathlib.Core.List.{List, [], _∷_}
 use native.Mathlib.Omega.{arith}
 use lib.Dec.{leb}
 use lib.ListN.{length}
 use borrow.Author.Tests.{leb-true, leb-false}
 use Rattle.rules.specs.declared.Refusal.{Refusal}
-use Rattle.rules.specs.declared.Refusal.the-variants.{StartOrTarget, RouteRoom}
+use Rattle.rules.specs.declared.Refusal.the-variants.{StartOrTarget, RouteRoom, DistanceRoom}
+use Rattle.rules.specs.declared.Direction.{Direction}
 use Rattle.rules.specs.declared.BuildAnswer.the-variants as build
-use Rattle.rules.specs.declared.CustomiseAnswer.{CustomiseAnswer}
-use Rattle.rules.specs.declared.CustomiseAnswer.the-variants as customise
+use Rattle.rules.specs.declared.FillAnswer.{FillAnswer}
+use Rattle.rules.specs.declared.FillAnswer.the-variants as fill
 use Rattle.rules.specs.declared.DistanceAnswer.{DistanceAnswer}
 use Rattle.rules.specs.declared.DistanceAnswer.the-variants as distance
 use Rattle.rules.specs.declared.RouteAnswer.{RouteAnswer}
 use Rattle.rules.specs.declared.RouteAnswer.the-variants as route
-use Rattle.rules.specs.Replies.{refusalNumber, refusalPlace, distanceReply, routeReply}
+use Rattle.rules.specs.Replies.{done, refusalNumber, refusalPlace, distanceReply, routeReply}
 use Rattle.rules.specs.Net.{Net, size, arcs}
 use Rattle.rules.specs.Graph.{Graph}
 use Rattle.rules.specs.Hierarchy.{EdgeCosts, itsE}
-use Rattle.rules.specs.Refusals.{passes}
-use Rattle.rules.specs.Calls.{CustomiseLeaves, customiseChecks, customiseLeaves, DistanceLeaves, distanceLeaves, RouteLeaves, routeLeaves}
-use Rattle.theory.specs.Demand3.{LeastWalk, NoWalk, TrueDistance, TrueAnswer}
-use Rattle.theory.specs.Answers.{Builds, Customises, TellsDistance, TellsRoute, RightDistance, RightRoute, DistanceAfterCustomise, RouteAfterCustomise, Priced, Outside, BuiltIsTaken}
-use Rattle.theory.proofs.Words.{either, split, clash}
-use Rattle.theory.proofs.Accepted.{lengths-pass, lawful-passes, rooms-pass, outside-fails}
-use Rattle.theory.proofs.Outcomes.{refusalOf, refusal-back, customise-answers, distance-answers, route-answers}
+use Rattle.rules.specs.Refusals.{passes, fails, firstFailure, check11, check15}
+use Rattle.rules.specs.Calls.{CustomiseLeaves, customiseChecks, customiseLeaves, DistanceLeaves, distanceLeaves, SweepLeaves, sweepLeaves, RouteLeaves, routeLeaves}
+use Rattle.theory.specs.Demand3.{LeastWalk, NoWalk, TrueDistance, TrueList, TrueAnswer}
+use Rattle.theory.specs.Answers.{Builds, Customises, TellsDistance, Sweeps, TellsRoute, RightDistance, RightRoute, DistanceAfterCustomise, SweepAfterCustomise, RouteAfterCustomise, Priced, Outside, BuiltIsTaken}
+use Rattle.theory.proofs.Words.{either, split, clash, same-or-not}
+use Rattle.theory.proofs.Accepted.{lengths-pass, lawful-passes, rooms-pass, in-range-passes, outside-fails, length-differs-fails}
+use Rattle.theory.proofs.Outcomes.{refusalOf, refusal-back, fill-answers, distance-answers, route-answers}
 use Rattle.theory.proofs.Buildable.{build-passed, tells, build-fits, build-counts}
-use Rattle.theory.proofs.Demand3Holds.{Stands, stands, distance-asks, route-asks, route-none, distance-right, route-right}
+use Rattle.theory.proofs.Demand3Holds.{Stands, stands, distance-asks, sweep-asks, route-asks, route-none, distance-right, sweep-right, route-right}
 
 -- ---- after customise
 
@@ -74,6 +75,14 @@ distance-after-customise N rank G C₀ C h from to l m answer q =
     right-distance N from to answer
     (subst (TrueDistance N from to) (sym (ap (λ (x : DistanceLeaves). x .reply) q)) (distance-right N rank G C (record { before = C₀; leaves = sym h }) from to l m))
 
+-- the reply and the list that demand 3 is about are those of the answer
+pub sweep-after-customise : SweepAfterCustomise
+sweep-after-customise N rank G C₀ C h d j l lent answer left long q =
+    let (e, t) =
+    subst (λ (x : SweepLeaves). (x .reply ≡ done) × TrueList N d j (x .distances)) (sym q)
+    (sweep-right N rank G C (record { before = C₀; leaves = sym h }) d j l lent long) in
+    (fill-answers answer fill.Done e, t)
+
 pub route-after-customise : RouteAfterCustomise
 route-after-customise N rank G C₀ C h from to l m lent answer left q =
     right-route N from to lent answer left
@@ -89,6 +98,15 @@ unfolding distanceLeaves
 distance-outside {N} S from to o answer q =
     distance-answers answer (distance.Refused StartOrTarget)
     (ap (λ (x : DistanceLeaves). x .reply) q ∙ rw (distance-asks S from to ∙ outside-fails (size N) from to o) refl)
+
+-- a sweep is refused as the checks of its junction and of its list's length say
+sweep-refused : {N : Net} {rank : List ℕ} {G : Graph} {C₀ C : EdgeCosts} → Stands N rank G C₀ C → (d : Direction) (j : ℕ)
+    (lent : List ℕ) (answer : FillAnswer) (left : List ℕ) → Sweeps N rank G C d j lent answer left
+    → (r : Refusal) → firstFailure (check11 (size N) j j ∷ check15 (size N) lent ∷ []) ≡ fails (refusalNumber r) (refusalPlace r)
+    → answer ≡ fill.Refused r
+unfolding sweepLeaves
+sweep-refused S d j lent answer left q r v =
+    fill-answers answer (fill.Refused r) (ap (λ (x : SweepLeaves). x .reply) q ∙ rw (sweep-asks S j lent ∙ v) refl)
 
 route-outside : {N : Net} {rank : List ℕ} {G : Graph} {C₀ C : EdgeCosts} → Stands N rank G C₀ C → (from to : ℕ) → Outside N from to
     → (lent : List ℕ) (answer : RouteAnswer) (left : List ℕ) → TellsRoute N rank G C from to lent answer left
@@ -116,10 +134,10 @@ built-passes N rank₀ rank G₀ G e h p C₀ u d =
 
 -- so that it is done
 done-told : (N : Net) (rank : List ℕ) (G : Graph) (C₀ : EdgeCosts) → customiseChecks N rank G C₀ ≡ passes
-    → (answer : CustomiseAnswer) (C : EdgeCosts) → Customises N rank G C₀ answer C → answer ≡ customise.Done
+    → (answer : FillAnswer) (C : EdgeCosts) → Customises N rank G C₀ answer C → answer ≡ fill.Done
 unfolding customiseLeaves
 done-told N rank G C₀ c answer C h =
-    customise-answers answer customise.Done (ap (λ (x : CustomiseLeaves). x .reply) h ∙ rw c refl)
+    fill-answers answer fill.Done (ap (λ (x : CustomiseLeaves). x .reply) h ∙ rw c refl)
 
 -- both junctions are in the net, or one is not
 in-or-outside : (N : Net) (from to : ℕ) → Outside N from to ⊎ ((from < size N) × (to < size N))
@@ -139,6 +157,17 @@ built-is-taken N rank₀ rank G₀ G e h p C₀ u d =
           either (in-or-outside N from to)
           (λ o. let k = distance-outside (stands N rank G C₀ C (sym c)) from to o answer q in (cc, o))
           (λ (l, m). absurd (distance-after-customise N rank G C₀ C c from to l m answer q .taken f g));
+      sweep-taken = λ C c d j lent answer left q f g.
+          let n = size N in
+          let refused = sweep-refused (stands N rank G C₀ C (sym c)) d j lent answer left q in
+          either (in-or-outside N j j)
+          (λ o. let k = refused StartOrTarget (rw (outside-fails n j j o) refl) in inl (cc, either o (λ l. l) (λ l. l)))
+          (λ (l, m).
+          either (same-or-not (length lent) n)
+          (λ long. let k = sweep-after-customise N rank G C₀ C c d j l lent answer left long q .0 in clash (cc))
+          (λ differs.
+          let k = refused DistanceRoom (rw (in-range-passes n j j l m, length-differs-fails n lent differs) refl) in
+          inr (cc, differs)));
       route-taken = λ C c from to lent answer left q f g.
           either (in-or-outside N from to)
           (λ o. let k = route-outside (stands N rank G C₀ C (sym c)) from to o lent answer left q in inl (cc, o))

@@ -1,5 +1,5 @@
--- What holds whatever the cost lists hold: arcs that route hands back are a walk of the distance told; the paper's
--- equation has one solution. Assumes nothing.
+-- What holds whatever the cost lists hold: a sweep lists what distance tells; arcs that route hands back are a walk of the distance told; the
+-- paper's equation has one solution. Assumes nothing.
 use Prim.Native.Nat.{ℕ, _≤_, _<_, min}
 use mathlib.Core.Path.{_≡_, refl, sym, ap, ap₂, _∙_}
 use mathlib.Core.Bool.{cond}
@@ -9,37 +9,71 @@ use lib.Dec.{T, eqb}
 use lib.ListN.{length, getD, replicate}
 use borrow.Author.Tests.{eqb-true, eqb-false}
 use Rattle.rules.specs.Costs.{closed, none}
+use Rattle.rules.specs.declared.Direction.{Direction}
 use Rattle.rules.specs.declared.Direction.the-variants.{Up, Down}
-use Rattle.rules.specs.Words.{least}
-use Rattle.rules.specs.Replies.{refused, drive, noWalk}
+use Rattle.rules.specs.Words.{least, tabulate}
+use Rattle.rules.specs.Replies.{Reply, refused, done, drive, noWalk}
 use Rattle.rules.specs.Net.{Net, size, junction, arcBetween, roadBetween}
-use Rattle.rules.specs.Hierarchy.{EdgeCosts, edgeCosts, linked, held, itsE}
+use Rattle.rules.specs.Hierarchy.{EdgeCosts, edgeCosts, linked, held, along, itsE}
 use Rattle.rules.specs.Customised.{over}
 use Rattle.rules.specs.Distance.{distance}
 use Rattle.rules.specs.Route.{Event, met, trouble, driven, routeList}
-use Rattle.rules.specs.Refusals.{Verdict, passes, fails, check11}
-use Rattle.rules.specs.Calls.{unless, customiseChecks, shortcutCost, customisedCosts, RouteLeaves, routeLeft, routeChecks, listedDistance, listedWay, drivenLeaves, routeLeaves}
-use Rattle.theory.specs.Demand3.{SomeWalk, RouteOnAnyLists}
-use Rattle.theory.proofs.Words.{either, split, least-same, clash}
-use Rattle.theory.proofs.Verdicts.{first-passes}
+use Rattle.rules.specs.Refusals.{passes, check11, check15, check16}
+use Rattle.rules.specs.Calls.{customiseChecks, shortcutCost, customisedCosts, distanceChecks, distanceBetween, distanceLeaves, SweepLeaves, sweepLeft, sweepChecks, orClosed, sweptLeaves, sweepLeaves, RouteLeaves, routeLeft, routeChecks, listedDistance, listedWay, drivenLeaves, routeLeaves}
+use Rattle.theory.specs.Demand3.{startBy, targetBy, SomeWalk, RouteOnAnyLists, SweepOnAnyLists, Says, SweepSaysDistance}
+use Rattle.theory.proofs.Words.{either, split, least-same, clash, length-tabulate, tabulate-at}
+use Rattle.theory.proofs.Verdicts.{first-passes, unless-e}
 use Rattle.theory.proofs.Customised.{customised-is, customised-only, over-same}
 use Rattle.theory.proofs.Distance.{distance-top}
+use Rattle.theory.proofs.Sweep.{reach-is}
 use Rattle.theory.proofs.Route.{trouble-e, length-route, met-drive}
 use Rattle.theory.specs.Rows.{InRow}
 use Rattle.theory.proofs.Rows.{linked-turn, linked-i, in-heads}
 use Rattle.theory.proofs.Held.{held-up, held-down}
 use Rattle.theory.proofs.CostLists.{list-past, list-of, held-list}
 use Rattle.theory.specs.Accepted.{Accepted}
-use Rattle.theory.proofs.Accepted.{accepted, passes11}
+use Rattle.theory.proofs.Accepted.{accepted, asked, passes11, others-pass}
 use Rattle.theory.proofs.Walks.{drive-walk}
 use Rattle.rules.specs.Graph.{Graph}
 
--- ---- route
+-- ---- the sweeps
 
--- a reply that tells a drive came past every other one
-told-drive : (v : Verdict) (room : List ℕ) (rest : RouteLeaves) (d k : ℕ) → unless v (routeLeft room) rest .reply ≡ drive d k → v ≡ passes
-told-drive passes room rest d k e = refl
-told-drive (fails n p) room rest d k e = clash (cc)
+-- the procedure finds the distance, for the graph's test of two positions is the same either way round
+pub sweep-on-any-lists : SweepOnAnyLists
+unfolding listedDistance
+sweep-on-any-lists n G C d s p = reach-is n (linked G) (linked-turn G) (held G C) d s p
+
+-- what distance replies, once its checks have passed, is what an entry made of the distance says
+says-is : (order rank : List ℕ) (G : Graph) (C : EdgeCosts) (from to : ℕ) → distanceChecks order rank G C from to ≡ passes
+    → Says (orClosed (distanceBetween (length order) rank G C from to)) (distanceLeaves order rank G C from to .reply)
+unfolding distanceLeaves
+says-is order rank G C from to p =
+    let d = distanceBetween (length order) rank G C from to in
+    rw p (either (split (eqb d none)) (λ e. rw e refl) (λ e. rw e refl))
+
+-- the same for the two junctions of an entry, from j or to j, where a sweep's checks have passed
+entry-says : (order rank : List ℕ) (G : Graph) (C : EdgeCosts) (d : Direction) (j x : ℕ) → distanceChecks order rank G C j j ≡ passes → x < length order
+    → Says (orClosed (along d (distanceBetween (length order) rank G C) j x)) (distanceLeaves order rank G C (startBy d j x) (targetBy d j x) .reply)
+entry-says order rank G C Up j x p h =
+    says-is order rank G C j x (others-pass order rank G C j j j x p (asked order rank G C j j p .start) h)
+entry-says order rank G C Down j x p h =
+    says-is order rank G C x j (others-pass order rank G C j j x j p h (asked order rank G C j j p .start))
+
+-- a sweep that is done passed its checks and 16, and so would distance for each entry
+pub sweep-says-distance : SweepSaysDistance
+unfolding sweepLeaves sweepChecks sweptLeaves
+sweep-says-distance order rank G C d j lent e =
+    let n = length order in
+    let f = along d (distanceBetween n rank G C) j in
+    let entry : ℕ → ℕ = λ x. orClosed (f x) in
+    let reply : SweepLeaves → Reply = λ l. l .reply in
+    let filled = sweepLeft (tabulate entry 0 n) done in
+    let c = unless-e reply (sweepChecks order rank G C j lent) (sweepLeft lent) (sweptLeaves n f) done (λ k p g. clash (cc)) e in
+    let c16 = unless-e reply (check16 n f) (sweepLeft (replicate n closed)) filled done (λ k p g. clash (cc)) (rw c at e) in
+    let p = first-passes (distanceChecks order rank G C j j) (check15 n lent ∷ []) c .0 in
+    rw (c, c16) (length-tabulate entry 0 n, λ x h. rw (tabulate-at entry n x 0 h) (entry-says order rank G C d j x p h))
+
+-- ---- route
 
 route-passed : (N : Net) (rank : List ℕ) (G : Graph) (C : EdgeCosts) (from to : ℕ) → routeChecks N rank G C from to ≡ passes
     → (customiseChecks N rank G C ≡ passes) × (check11 (size N) from to ≡ passes)
@@ -99,7 +133,7 @@ drive-found N rank G C from to room d k A h g e =
 pub route-on-any-lists : RouteOnAnyLists
 unfolding routeLeaves listedDistance listedWay
 route-on-any-lists N rank G C from to room d k e =
-    let p = told-drive (routeChecks N rank G C from to) room _ d k e in
+    let p = unless-e (λ (l : RouteLeaves). l .reply) (routeChecks N rank G C from to) (routeLeft room) _ (drive d k) (λ n q g. clash (cc)) e in
     let (c, f) = route-passed N rank G C from to p in
     let (h, g) = passes11 (size N) from to f in
     rw p (drive-found N rank G C from to (length room) d k (accepted N rank G C c) h g (rw p at e))

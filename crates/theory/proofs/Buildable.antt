@@ -1,17 +1,17 @@
 -- What build's checks establish, and that what build leaves is a hierarchy with an edge for every arc with unequal ends: customise takes it.
 -- Assumes nothing.
 use Prim.Native.Nat.{ℕ, _-_}
-use mathlib.Core.Path.{_≡_, refl, sym, ap, _∙_}
+use mathlib.Core.Path.{_≡_, ap, _∙_}
 use mathlib.Core.List.{List, [], _∷_, _++_}
 use lib.ListN.{length, replicate}
-use Rattle.rules.specs.Replies.{Reply, refused, edges}
+use Rattle.rules.specs.Replies.{Reply, edges}
 use Rattle.rules.specs.Net.{Net, net, rankList}
 use Rattle.rules.specs.Graph.{Graph, graph, firstList, headsList, edgeCount}
 use Rattle.rules.specs.Hierarchy.{itsE}
-use Rattle.rules.specs.Refusals.{Verdict, passes, fails, check1, check2, check3, check4, check5, check6, check7, check8}
+use Rattle.rules.specs.Refusals.{passes, check1, check2, check3, check4, check5, check6, check7, check8}
 use Rattle.rules.specs.Calls.{unless, BuildLeaves, buildLeft, buildChecks, buildLeaves}
 use Rattle.theory.proofs.Words.{clash}
-use Rattle.theory.proofs.Verdicts.{first-passes}
+use Rattle.theory.proofs.Verdicts.{first-passes, unless-e}
 use Rattle.theory.proofs.Orders.{ordered, inverts-list, inverse-list}
 use Rattle.theory.proofs.Built.{first-end, built-hierarchy, built-edges}
 use Rattle.theory.proofs.Accepted.{passes1, passes2, passes3, passes5, hierarchy-passes}
@@ -59,14 +59,6 @@ buildable tails heads order rank first e =
       first-long = f5 .1;
     }
 
--- a reply that tells E came past every refusal
-told-edges : (v : Verdict) (refusal : Reply → BuildLeaves) (rest left : BuildLeaves) (e : ℕ) → ((r : Reply) → refusal r .reply ≡ r)
-    → unless v refusal rest ≡ left → left .reply ≡ edges e → (v ≡ passes) × (rest ≡ left)
-told-edges passes refusal rest left e says h f = (refl, h)
-told-edges (fails k p) refusal rest left e says h f =
-    let g : refused k p ≡ edges e = sym (says (refused k p)) ∙ ap (λ (l : BuildLeaves). l .reply) h ∙ f in
-    clash (cc)
-
 -- the graph that build leaves in a room for its heads
 abbrev builtIn : (N : Net) (room : ℕ) → Graph
 builtIn N room = graph (firstList N) (headsList N ++ replicate (room - edgeCount N) 0)
@@ -84,14 +76,15 @@ pub tells : (tails heads order rank₀ : List ℕ) (G₀ : Graph) (rank : List �
 unfolding buildLeaves
 tells tails heads order rank₀ G₀ rank G e h =
     let N = net tails heads [] order in
-    let left = buildLeft rank G (edges e) in
+    let reply : BuildLeaves → Reply = λ l. l .reply in
     let built = buildLeft (rankList order) (builtIn N (length (G₀ .heads))) (edges (edgeCount N)) in
     let noughts = buildLeft (replicate (length rank₀) 0) (graph (replicate (length (G₀ .first)) 0) (replicate (length (G₀ .heads)) 0)) in
-    let (c, r) =
-    told-edges (buildChecks tails heads order rank₀ (G₀ .first)) (buildLeft rank₀ G₀)
-    (unless (check6 (edgeCount N) (G₀ .heads)) noughts built) left e (λ r. refl) h refl in
-    let (c6, b) = told-edges (check6 (edgeCount N) (G₀ .heads)) noughts built left e (λ r. refl) r refl in
-    let told : edges (edgeCount N) ≡ edges e = ap (λ (l : BuildLeaves). l .reply) b in
+    let c =
+    unless-e reply (buildChecks tails heads order rank₀ (G₀ .first)) (buildLeft rank₀ G₀)
+    (unless (check6 (edgeCount N) (G₀ .heads)) noughts built) (edges e) (λ k p f. clash (cc)) (ap reply h) in
+    let c6 = unless-e reply (check6 (edgeCount N) (G₀ .heads)) noughts built (edges e) (λ k p f. clash (cc)) (ap reply (rw c at h)) in
+    let b : built ≡ buildLeft rank G (edges e) = rw (c, c6) at h in
+    let told : edges (edgeCount N) ≡ edges e = ap reply b in
     record {
       passing = c;
       ranks = ap (λ (l : BuildLeaves). l .rank) b;

@@ -1,6 +1,6 @@
 -- The lists that build's definition gives, read back: the rows, the joined pairs, that they are a hierarchy, and that each arc has an edge.
 -- Assumes nothing.
-use Prim.Native.Nat.{ℕ, zero, suc, _+_, _≤_, _<_, min, max}
+use Prim.Native.Nat.{ℕ, zero, suc, _≤_, _<_, min, max}
 use mathlib.Core.Path.{_≡_, refl, sym, ap, _∙_}
 use mathlib.Core.Logic.{inl, _≢_}
 use mathlib.Core.Bool.{not, _&&_}
@@ -16,7 +16,7 @@ use Rattle.rules.specs.Graph.{Graph, graph, arcJoins, joined, row, rowsBelow, f
 use Rattle.rules.specs.Hierarchy.{rowAt, inverts, firstRises, headsReach, rowAscends, allIn, restInParent, isHierarchy, linked}
 use Rattle.rules.specs.Refusals.{passes, check8}
 use Rattle.theory.proofs.Verdicts.{failsAt-i}
-use Rattle.theory.proofs.Words.{split, either, and-l, and-r, and-i, not-e, same-test, eqb-i, neb-e, leb-i, each-i, has-here, has-there, has-nil, length-tabulate, getD-tabulate}
+use Rattle.theory.proofs.Words.{split, either, and-l, and-r, and-i, not-e, same-test, eqb-i, neb-e, leb-i, each-i, has-here, has-there, has-nil, length-tabulate, tabulate-at}
 use Rattle.theory.proofs.Joined.{two-i, arc-i, joined-two, joined-arc, joined-turn}
 use Rattle.theory.proofs.GraphRows.{ascends-e, ascends-has, row-e, row-i, row-ascends, parent-rest}
 
@@ -66,9 +66,7 @@ module _ (N : Net) where
   -- row p starts after the rows below it
   pub first-at : (p : ℕ) → p ≤ size N → getD (firstList N) p 0 ≡ length (rowsBelow N p)
   unfolding firstList
-  first-at p h =
-      getD-tabulate (λ p. length (rowsBelow N p)) 0 (suc (size N)) p 0 (omega arith)
-      ∙ ap (λ p. length (rowsBelow N p)) (let e : 0 + p ≡ p = omega arith in e)
+  first-at p h = tabulate-at (λ p. length (rowsBelow N p)) (suc (size N)) p 0 (omega arith)
 
   -- the last entry is E
   pub first-end : getD (firstList N) (size N) 0 ≡ edgeCount N

@@ -41,6 +41,16 @@ customise-groups N rank G C =
     let rest = check8 (N .tails) (N .heads) rank G ∷ check9 (N .costs) ∷ check10 (itsE (N .order) G) C ∷ [] in
     first-group roads (graph ++ rest) ∙ first-after (firstFailure roads) (graph ++ rest) (firstFailure graph ∷ rest) (first-group graph rest)
 
+-- distance's checks: only the last is about the junctions
+pub distance-last : (order rank : List ℕ) (G : Graph) (C : EdgeCosts) (from to : ℕ) → distanceChecks order rank G C from to
+    ≡ firstFailure
+    (firstFailure (check1 (length order) ∷ check4 order ∷ check7 order rank G ∷ check10 (itsE order G) C ∷ [])
+    ∷ check11 (length order) from to
+    ∷ [])
+unfolding distanceChecks
+distance-last order rank G C from to =
+    first-group (check1 (length order) ∷ check4 order ∷ check7 order rank G ∷ check10 (itsE order G) C ∷ []) (check11 (length order) from to ∷ [])
+
 -- distance's checks: those of the graph are the same
 pub distance-groups : (order rank : List ℕ) (G : Graph) (C : EdgeCosts) (from to : ℕ) → distanceChecks order rank G C from to
     ≡ firstFailure

@@ -1,10 +1,9 @@
 -- Costs held at the edges' places: what customising writes is read back, and a list with each cost at its place is the list of the
 -- definition. Assumes nothing.
-use Prim.Native.Nat.{ℕ, _+_, _≤_, _<_}
+use Prim.Native.Nat.{ℕ, _≤_, _<_}
 use mathlib.Core.Path.{_≡_, refl, ap, _∙_}
 use mathlib.Core.List.{List}
 use native.Mathlib.Omega.{arith}
-use native.Mathlib.Nat.{zero-add}
 use lib.Dec.{T, ltb}
 use lib.ListN.{length, getD}
 use borrow.Author.Tests.{ltb-true, ltb-false, lt-ltb, le-ltb}
@@ -14,7 +13,7 @@ use Rattle.rules.specs.Words.{tabulate}
 use Rattle.rules.specs.Costs.{closed}
 use Rattle.rules.specs.Hierarchy.{EdgeCosts, linked, rowOf, held, along}
 use Rattle.rules.specs.Customised.{costAt, costList, costLists}
-use Rattle.theory.proofs.Words.{split, either, is-tabulate, length-tabulate, getD-tabulate}
+use Rattle.theory.proofs.Words.{split, either, is-tabulate, length-tabulate, tabulate-at}
 use Rattle.theory.specs.Rows.{InRow, Rows}
 use Rattle.theory.proofs.Rows.{in-heads, linked-e, linked-two, linked-turn, place-is, row-is, in-row}
 use Rattle.rules.specs.Graph.{Graph}
@@ -28,8 +27,8 @@ pub list-past : (n : ℕ) (G : Graph) (f : ℕ → ℕ → ℕ) (d : Direction) 
     → getD (costList n G f d room) k 0 ≡ closed
 unfolding costList
 list-past n G f d room k h l =
-    getD-tabulate (costAt n G f d) 0 room k 0 (omega (arith, length-list n G f d room))
-    ∙ rw (le-ltb (0 + k) (getD (G .first) n 0) (omega arith)) refl
+    tabulate-at (costAt n G f d) room k 0 (omega (arith, length-list n G f d room))
+    ∙ rw (le-ltb k (getD (G .first) n 0) (omega arith)) refl
 
 module _ {n : ℕ} {G : Graph} (R : Rows n G) (f : ℕ → ℕ → ℕ) where
   -- the list of the definition has each cost at its edge's place
@@ -38,7 +37,7 @@ module _ {n : ℕ} {G : Graph} (R : Rows n G) (f : ℕ → ℕ → ℕ) where
   unfolding costList
   list-at d room p k b l r =
       let h : k < getD (G .first) n 0 = in-heads R p k l r .0 in
-      getD-tabulate (costAt n G f d) 0 room k closed (omega arith) ∙ ap (costAt n G f d) (zero-add k)
+      tabulate-at (costAt n G f d) room k closed (omega arith)
       ∙ rw (lt-ltb k (getD (G .first) n 0) h, row-is R p k l r) refl
 
   -- what customising writes is read back

@@ -1,34 +1,35 @@
 -- The proof of demand 3, as specs/Demand3.antt states it. Assumes nothing.
 use Prim.Native.Nat.{ℕ, _≤_, _<_}
 use mathlib.Core.Path.{_≡_, refl, sym, ap, _∙_, subst}
-use mathlib.Core.Logic.{inl, inr, _≢_}
-use mathlib.Core.Bool.{false, cond, not}
+use mathlib.Core.Logic.{_⊎_, inl, inr, _≢_}
+use mathlib.Core.Bool.{cond, not}
 use mathlib.Core.List.{List, [], _∷_, map, List·Memᴰ as In, List·Memᴰ·head as in-first, List·Memᴰ·tail as in-then, Memᴰ·cast as same-in}
 use native.Mathlib.Omega.{arith}
 use lib.Dec.{T, eqb, ltb}
 use lib.ListN.{length, getD}
-use borrow.Author.Tests.{eqb-true, eqb-false, ltb-true, ltb-false}
+use borrow.Author.Tests.{eqb-true, eqb-false, eq-eqb, ne-eqb, ltb-true, ltb-false}
 use Rattle.rules.specs.Costs.{closed, none}
+use Rattle.rules.specs.declared.Direction.{Direction}
 use Rattle.rules.specs.declared.Direction.the-variants.{Up, Down}
-use Rattle.rules.specs.Replies.{refused, done, far, noWalk}
+use Rattle.rules.specs.Replies.{Reply, done, far, noWalk}
 use Rattle.rules.specs.Net.{Net, size, arcs, arcCost, junction, arcBetween, roadBetween}
-use Rattle.rules.specs.Hierarchy.{EdgeCosts, linked, held, itsE}
+use Rattle.rules.specs.Hierarchy.{EdgeCosts, linked, held, along, itsE}
 use Rattle.rules.specs.Distance.{distance}
 use Rattle.rules.specs.Words.{has}
 use Rattle.rules.specs.Route.{Event, met, trouble, driven, routeList}
-use Rattle.rules.specs.Refusals.{Verdict, passes, fails, check10, check11}
-use Rattle.rules.specs.Calls.{unless, CustomiseLeaves, customiseLeft, customiseChecks, customiseLeaves, shortcutCost, customisedCosts, distanceChecks, listedDistance, distanceLeaves, routeChecks, listedWay, drivenLeaves, routeLeaves}
-use Rattle.theory.specs.Demand3.{isWalk, walkCost, passed, noneTwice, LeastWalk, NoWalk, TrueDistance, TrueAnswer, DistanceRight, RouteRight}
-use Rattle.theory.proofs.Words.{either, split, has-nil, has-cons, and-i, not-i, clash}
-use Rattle.theory.proofs.Verdicts.{alone}
+use Rattle.rules.specs.Refusals.{passes, firstFailure, check10, check11, check15}
+use Rattle.rules.specs.Calls.{CustomiseLeaves, customiseLeft, customiseChecks, customiseLeaves, shortcutCost, customisedCosts, distanceChecks, listedDistance, distanceBetween, distanceLeaves, SweepLeaves, sweepChecks, orClosed, sweptLeaves, sweepLeaves, routeChecks, listedWay, drivenLeaves, routeLeaves}
+use Rattle.theory.specs.Demand3.{isWalk, walkCost, passed, noneTwice, LeastWalk, NoWalk, TrueDistance, TrueAnswer, startBy, targetBy, leads, shut, TrueList, DistanceRight, SweepRight, RouteRight}
+use Rattle.theory.proofs.Words.{either, split, has-nil, has-cons, and-i, not-i, clash, length-tabulate, tabulate-at}
+use Rattle.theory.proofs.Verdicts.{alone, unless-e}
 use Rattle.theory.proofs.Distance.{distance-top}
 use Rattle.theory.proofs.CostLists.{length-list}
 use Rattle.theory.proofs.Route.{length-route, Drive, Clear, met-drive, trouble-none, trouble-room, trail-clear, pieces-trail}
 use Rattle.theory.proofs.Simple.{Apart, empty, more, places, few-steps, places-under, least-apart}
 use Rattle.theory.proofs.Rows.{linked-turn}
 use Rattle.theory.specs.Accepted.{Accepted}
-use Rattle.theory.proofs.Accepted.{Passed, passed-all, accepted, rooms-pass, in-range-passes}
-use Rattle.theory.proofs.Standing.{joins, road-lawful, road-small, far-walk, far-least, far-some, held-small, held-customised}
+use Rattle.theory.proofs.Accepted.{Passed, passed-all, accepted, rooms-pass, in-range-passes, length-is-passes, near-passes}
+use Rattle.theory.proofs.Standing.{joins, road-lawful, road-small, far-walk, far-least, far-some, far-small, held-small, held-customised}
 use Rattle.theory.proofs.Walks.{drive-walk, drive-way, way-drive, walk-way}
 use Rattle.rules.specs.Graph.{Graph}
 
@@ -53,12 +54,6 @@ apart-once f one (more {x = x} {xs = xs} n a) =
 
 -- ---- customise accepted
 
-unless-done : (v : Verdict) (C₀ left C : EdgeCosts)
-    → unless v (customiseLeft C₀) (customiseLeft left done) ≡ customiseLeft C done
-    → (v ≡ passes) × (C ≡ left)
-unless-done passes C₀ left C e = (refl, sym (ap (λ (l : CustomiseLeaves). l .costs) e))
-unless-done (fails k p) C₀ left C e = let g : refused k p ≡ done = ap (λ (l : CustomiseLeaves). l .reply) e in clash (cc)
-
 -- customise accepted, and left the customised costs
 pub record Stands (N : Net) (rank : List ℕ) (G : Graph) (C₀ C : EdgeCosts) : Type 0 where
   pub passing : customiseChecks N rank G C₀ ≡ passes
@@ -68,10 +63,12 @@ pub stands : (N : Net) (rank : List ℕ) (G : Graph) (C₀ C : EdgeCosts) → cu
     → Stands N rank G C₀ C
 unfolding customiseLeaves
 stands N rank G C₀ C e =
-    let w = unless-done (customiseChecks N rank G C₀) C₀ (customisedCosts N G C₀) C e in
-    record { passing = w .0; lists = w .1 }
+    let reply : CustomiseLeaves → Reply = λ l. l .reply in
+    let filled = customiseLeft (customisedCosts N G C₀) done in
+    let p = unless-e reply (customiseChecks N rank G C₀) (customiseLeft C₀) filled done (λ k q f. clash (cc)) (ap reply e) in
+    record { passing = p; lists = sym (ap (λ (l : CustomiseLeaves). l .costs) (rw p at e)) }
 
--- ---- the checks of the two questions pass
+-- ---- the checks of the questions pass
 
 module _ {N : Net} {rank : List ℕ} {G : Graph} {C₀ C : EdgeCosts} (S : Stands N rank G C₀ C) where
   abbrev A : Accepted N rank G C₀
@@ -93,6 +90,11 @@ module _ {N : Net} {rank : List ℕ} {G : Graph} {C₀ C : EdgeCosts} (S : Stand
   unfolding distanceChecks
   distance-asks from to = rw (P .c1, P .c4, P .c7, lists-pass) (sym (alone (check11 (size N) from to)))
 
+  -- of a sweep's checks, those of the junction and of the list's length are left
+  pub sweep-asks : (j : ℕ) (lent : List ℕ) → sweepChecks (N .order) rank G C j lent ≡ firstFailure (check11 (size N) j j ∷ check15 (size N) lent ∷ [])
+  unfolding sweepChecks
+  sweep-asks j lent = rw (distance-asks j j) refl
+
   -- customise would accept the lists that it left
   pub still-passes : customiseChecks N rank G C ≡ passes
   unfolding customiseChecks
@@ -104,6 +106,10 @@ module _ {N : Net} {rank : List ℕ} {G : Graph} {C₀ C : EdgeCosts} (S : Stand
   route-asks from to = rw still-passes (sym (alone (check11 (size N) from to)))
 
   -- ---- the distance
+
+  -- a distance is the number for none, and there is no walk, or it is below CLOSED and the cost of the least walk
+  abbrev NoneOrLeast : (from to distance : ℕ) → Type 0
+  NoneOrLeast from to distance = ((distance ≡ none) × NoWalk N from to) ⊎ ((distance < closed) × LeastWalk N from to distance)
 
   module _ (from to : ℕ) (h : from < size N) (g : to < size N) where
     abbrev s : ℕ
@@ -122,7 +128,7 @@ module _ {N : Net} {rank : List ℕ} {G : Graph} {C₀ C : EdgeCosts} (S : Stand
     walk-least : (other : List ℕ) → T (isWalk N from other to) → (d ≤ walkCost N other) × (d < none)
     walk-least other w =
         let (x, p, l) = walk-way N (A .ranks) (A .ends-in) finite other from to h w in
-        (let k = far-least A (S .lists) s t s-in p in omega arith, far-some A (S .lists) s t s-in p)
+        (let k = far-least A (S .lists) s t s-in p in omega arith, omega (arith, far-some A (S .lists) s t s-in p))
       where
         finite : (i : ℕ) → i < arcs N → arcCost N i ≢ closed → arcCost N i < closed
         finite i l n = either (A .lawful i l .most) (λ e. absurd (n e)) (λ e. omega arith)
@@ -141,18 +147,20 @@ module _ {N : Net} {rank : List ℕ} {G : Graph} {C₀ C : EdgeCosts} (S : Stand
         let (u, v) = drive-from-to r in
         record { way = is; walks = u; costs = v; least = λ other w. walk-least other w .0 }
 
-    -- a distance that is not the number for none is below it
-    below : eqb d none ≡ false → d < none
-    below e = omega (arith, distance-top (size N) (linked G) (held G C) s t, eqb-false d none e)
-
-    no-walk : d ≡ none → NoWalk N from to
-    no-walk e = record { none = λ other w. let x = walk-least other w .1 in omega arith }
-
-    told : TrueDistance N from to (cond (eqb d none) noWalk (far d))
-    told =
+    -- the distance between the junctions' positions is one or the other: distance, the sweeps and route choose what they tell by it
+    none-or-least : NoneOrLeast from to d
+    none-or-least =
         either (split (eqb d none))
-        (λ e. rw e (no-walk (eqb-true d none e)))
-        (λ e. rw e (least-walk (below e)))
+        (λ e.
+        let x = eqb-true d none e in
+        inl (x, record { none = λ other w. let y = walk-least other w .1 in omega arith }))
+        (λ e.
+        let b : d < none = omega (arith, distance-top (size N) (linked G) (held G C) s t, eqb-false d none e) in
+        inr (omega (arith, far-small A (S .lists) s t s-in b), least-walk b))
+
+    -- what distance tells by it is true
+    told : TrueDistance N from to (cond (eqb d none) noWalk (far d))
+    told = either none-or-least (λ (e, n). rw (eq-eqb d none e) n) (λ (b, w). rw (ne-eqb d none (λ e. omega arith)) w)
 
     distance-told : TrueDistance N from to (distanceLeaves (N .order) rank G C from to .reply)
     unfolding distanceLeaves listedDistance
@@ -223,24 +231,54 @@ module _ {N : Net} {rank : List ℕ} {G : Graph} {C₀ C : EdgeCosts} (S : Stand
     unfolding routeLeaves listedDistance
     route-none lost room =
         rw (route-asks from to ∙ in-range-passes (size N) from to h g)
-        (either (split (eqb d none))
-        (λ e. rw e refl)
-        (λ e.
-        let w = least-walk (below e) in
-        absurd (lost .none (w .way) (w .walks))))
+        (either none-or-least (λ (e, n). rw (eq-eqb d none e) refl) (λ (b, w). absurd (lost .none (w .way) (w .walks))))
 
     route-told : (room : List ℕ)
         → TrueAnswer N from to (length room) (routeLeaves N rank G C from to room .route) (routeLeaves N rank G C from to room .reply)
     unfolding routeLeaves listedDistance listedWay
     route-told room =
         rw (route-asks from to ∙ in-range-passes (size N) from to h g)
-        (either (split (eqb d none))
-        (λ e. rw e (no-walk (eqb-true d none e)))
-        (λ e. rw e (answered (below e) (length room))))
+        (either none-or-least
+        (λ (e, n). rw (eq-eqb d none e) n)
+        (λ (b, w). rw (ne-eqb d none (λ e. omega arith)) (answered (omega arith) (length room))))
+
+  -- ---- the sweeps
+
+  -- the distance that an entry is made of is one or the other too, from j or to j
+  entry-is : (d : Direction) (j x : ℕ) → j < size N → x < size N
+      → NoneOrLeast (startBy d j x) (targetBy d j x) (along d (distanceBetween (size N) rank G C) j x)
+  unfolding listedDistance
+  entry-is Up j x h g = none-or-least j x h g
+  entry-is Down j x h g = none-or-least x j g h
+
+  -- no distance is too far, so the list is filled, and each entry is true
+  sweep-told : (d : Direction) (j : ℕ) → j < size N → (lent : List ℕ) → length lent ≡ size N
+      → let left : SweepLeaves = sweepLeaves (N .order) rank G C d j lent in
+      (left .reply ≡ done) × TrueList N d j (left .distances)
+  unfolding sweepLeaves sweptLeaves
+  sweep-told d j h lent long =
+      let n = size N in
+      let f = along d (distanceBetween n rank G C) j in
+      let near = near-passes n f (λ x g. either (entry-is d j x h g) (λ (e, l). inl e) (λ (b, w). inr b)) in
+      rw (sweep-asks j lent, in-range-passes n j j h h, length-is-passes n lent long, near) (
+        refl,
+        record {
+          long = length-tabulate (λ x. orClosed (f x)) 0 n;
+          entry = λ x g.
+              rw (tabulate-at (λ x. orClosed (f x)) n x 0 g)
+              (either (entry-is d j x h g)
+              (λ (e, l). rw (eq-eqb (f x) none e) (shut refl l))
+              (λ (b, w). rw (ne-eqb (f x) none (λ e. omega arith)) (leads b w)));
+        },
+      )
 
 -- "the distance told is the least cost of any walk along open roads, "none" exactly if there is none"
 pub distance-right : DistanceRight
 distance-right N rank G C left from to h g = distance-told (stands N rank G (left .before) C (left .leaves)) from to h g
+
+-- "The filled list .. holds, for each junction, what the distance call says, CLOSED for none"; 16 "never with customised costs"
+pub sweep-right : SweepRight
+sweep-right N rank G C left d j h lent long = sweep-told (stands N rank G (left .before) C (left .leaves)) d j h lent long
 
 -- "the route is such a walk, adds up, and passes no junction twice"
 pub route-right : RouteRight

@@ -172,6 +172,17 @@ module _ (n : ℕ) (joined : ℕ → ℕ → Bool) (cost : ℕ → ℕ → ℕ) 
   unfolding distance
   distance-top = least-start (bothLabels joined cost s t) none n
 
+  -- no distance is lost to the top either: it is the sum of two labels
+  pub distance-small : ((a b : ℕ) → cost a b ≤ closed) → distance n joined cost s t < none → distance n joined cost s t ≤ n * closed + n * closed
+  distance-small small h =
+      let (p, l, e) = distance-made h in
+      omega (
+        arith,
+        label-small joined (along Up cost) s small p (omega arith),
+        label-small joined (along Down cost) t (λ a b. small b a) p (omega arith),
+        mul-le-mul-right closed l,
+      )
+
   -- where there is a distance both ends' labels meet there, at the distance, and at no lower position
   pub meeting-made : distance n joined cost s t < none
       → (meeting n joined cost s t < n)

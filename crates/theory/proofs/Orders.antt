@@ -5,7 +5,6 @@ use mathlib.Core.Logic.{_≢_}
 use mathlib.Core.Bool.{Bool}
 use mathlib.Core.List.{List}
 use native.Mathlib.Omega.{arith}
-use native.Mathlib.Nat.{zero-add}
 use lib.Dec.{T, eqb, leb}
 use lib.ListN.{length, getD}
 use lib.Seq.{ext-getD}
@@ -15,7 +14,7 @@ use Rattle.rules.specs.Net.{rankList, rank as seat}
 use Rattle.rules.specs.Hierarchy.{inverts}
 use Rattle.rules.specs.Refusals.{passes, check4, orderFault}
 use Rattle.theory.proofs.Verdicts.{failsAt-e, failsAt-i}
-use Rattle.theory.proofs.Words.{neither-below, holds-true, true-holds, true-false, split, either, and-l, and-r, and-i, or-l, or-r, or-e, eqb-e, eqb-i, leb-e, some-i, some-e, each-i, each-e, lowest-is, length-tabulate, getD-tabulate}
+use Rattle.theory.proofs.Words.{neither-below, holds-true, true-holds, true-false, split, either, and-l, and-r, and-i, or-l, or-r, or-e, eqb-e, eqb-i, leb-e, some-i, some-e, each-i, each-e, lowest-is, length-tabulate, tabulate-at}
 use Rattle.theory.specs.Orders.{Ordered, Inverse}
 
 -- ---- the order
@@ -118,8 +117,7 @@ inverts-list {order} o = search (and-i, eqb-i, each-i, length-tabulate, back)
   where
     back : (p : ℕ) → p < length order → getD (rankList order) (getD order p 0) 0 ≡ p
     back p h =
-        getD-tabulate (seat order) 0 (length order) (getD order p 0) 0 (o .within p h)
-        ∙ ap (seat order) (zero-add (getD order p 0))
+        tabulate-at (seat order) (length order) (getD order p 0) 0 (o .within p h)
         ∙ lowest-is (λ q. eqb (getD order q 0) (getD order p 0)) 0 (length order) p (omega arith) (omega arith)
         (eqb-i (getD order p 0) (getD order p 0) refl)
         (λ q a b t. omega (arith, o .once q p (omega arith) h (eqb-e (getD order q 0) (getD order p 0) t)))

@@ -4,18 +4,19 @@ use mathlib.Core.Path.{_≡_, refl, sym, ap, _∙_}
 use mathlib.Core.List.{List, [], _∷_}
 use lib.ListN.{getD}
 use Rattle.rules.specs.declared.Refusal.{Refusal}
-use Rattle.rules.specs.declared.Refusal.the-variants.{JunctionCount, ArcLists, ArcEnd, OrderEntry, RankOrFirstRoom, HeadsRoom, NotAHierarchy, ArcWithoutEdge, ArcCost, CostLists, StartOrTarget, RouteRoom, PieceFitsNothing, Text}
+use Rattle.rules.specs.declared.Refusal.the-variants.{JunctionCount, ArcLists, ArcEnd, OrderEntry, RankOrFirstRoom, HeadsRoom, NotAHierarchy, ArcWithoutEdge, ArcCost, CostLists, StartOrTarget, RouteRoom, PieceFitsNothing, Text, DistanceRoom, TooFar}
+use Rattle.rules.specs.declared.Direction.{Direction}
 use Rattle.rules.specs.declared.BuildAnswer.{BuildAnswer}
 use Rattle.rules.specs.declared.BuildAnswer.the-variants as build
-use Rattle.rules.specs.declared.CustomiseAnswer.{CustomiseAnswer}
-use Rattle.rules.specs.declared.CustomiseAnswer.the-variants as customise
+use Rattle.rules.specs.declared.FillAnswer.{FillAnswer}
+use Rattle.rules.specs.declared.FillAnswer.the-variants as fill
 use Rattle.rules.specs.declared.DistanceAnswer.{DistanceAnswer}
 use Rattle.rules.specs.declared.DistanceAnswer.the-variants as distance
 use Rattle.rules.specs.declared.RouteAnswer.{RouteAnswer}
 use Rattle.rules.specs.declared.RouteAnswer.the-variants as route
 use Rattle.rules.specs.Net.{Net}
-use Rattle.rules.specs.Replies.{Reply, refused, edges, done, far, drive, noWalk, refusalNumber, refusalPlace, buildReply, customiseReply, distanceReply, routeReply}
-use Rattle.rules.specs.Calls.{BuildLeaves, buildLeft, buildLeaves, CustomiseLeaves, customiseLeft, customiseLeaves, DistanceLeaves, distanceLeft, distanceLeaves, RouteLeaves, routeLeft, routeLeaves}
+use Rattle.rules.specs.Replies.{Reply, refused, edges, done, far, drive, noWalk, refusalNumber, refusalPlace, buildReply, fillReply, distanceReply, routeReply}
+use Rattle.rules.specs.Calls.{BuildLeaves, buildLeft, buildLeaves, CustomiseLeaves, customiseLeft, customiseLeaves, DistanceLeaves, distanceLeft, distanceLeaves, SweepLeaves, sweepLeft, sweepLeaves, RouteLeaves, routeLeft, routeLeaves}
 use Rattle.rules.specs.Graph.{Graph}
 use Rattle.rules.specs.Hierarchy.{EdgeCosts}
 
@@ -40,6 +41,8 @@ refusalOf number place =
     ∷ RouteRoom
     ∷ PieceFitsNothing
     ∷ Text place
+    ∷ DistanceRoom
+    ∷ TooFar place
     ∷ [])
     number
     JunctionCount
@@ -60,6 +63,8 @@ refusal-back StartOrTarget = refl
 refusal-back RouteRoom = refl
 refusal-back PieceFitsNothing = refl
 refusal-back (Text line) = refl
+refusal-back DistanceRoom = refl
+refusal-back (TooFar junction) = refl
 
 -- ---- answers
 
@@ -83,10 +88,10 @@ build-answers =
     answers buildReply build.Refused build.Edges (λ d k. build.Edges 0) (build.Edges 0)
     (elim [ build.Edges e ↦ refl | build.Refused r ↦ ap build.Refused (refusal-back r) ])
 
-pub customise-answers : (a b : CustomiseAnswer) → customiseReply a ≡ customiseReply b → a ≡ b
-customise-answers =
-    answers customiseReply customise.Refused (λ e. customise.Done) (λ d k. customise.Done) customise.Done
-    (elim [ customise.Done ↦ refl | customise.Refused r ↦ ap customise.Refused (refusal-back r) ])
+pub fill-answers : (a b : FillAnswer) → fillReply a ≡ fillReply b → a ≡ b
+fill-answers =
+    answers fillReply fill.Refused (λ e. fill.Done) (λ d k. fill.Done) fill.Done
+    (elim [ fill.Done ↦ refl | fill.Refused r ↦ ap fill.Refused (refusal-back r) ])
 
 pub distance-answers : (a b : DistanceAnswer) → distanceReply a ≡ distanceReply b → a ≡ b
 distance-answers =
@@ -113,13 +118,13 @@ build-determined tails heads order rank₀ G₀ r r′ rank rank′ G G′ e e�
     )
 
 -- customise's promise: answer, up and down
-pub customise-determined : (N : Net) (rank : List ℕ) (G : Graph) (C₀ : EdgeCosts) (r r′ : CustomiseAnswer) (C C′ : EdgeCosts)
-    → customiseLeft C (customiseReply r) ≡ customiseLeaves N rank G C₀
-    → customiseLeft C′ (customiseReply r′) ≡ customiseLeaves N rank G C₀
+pub customise-determined : (N : Net) (rank : List ℕ) (G : Graph) (C₀ : EdgeCosts) (r r′ : FillAnswer) (C C′ : EdgeCosts)
+    → customiseLeft C (fillReply r) ≡ customiseLeaves N rank G C₀
+    → customiseLeft C′ (fillReply r′) ≡ customiseLeaves N rank G C₀
     → (r ≡ r′) × (C ≡ C′)
 customise-determined N rank G C₀ r r′ C C′ e e′ =
     let s = e ∙ sym e′ in
-    (customise-answers r r′ (ap (λ (x : CustomiseLeaves). x .reply) s), ap (λ (x : CustomiseLeaves). x .costs) s)
+    (fill-answers r r′ (ap (λ (x : CustomiseLeaves). x .reply) s), ap (λ (x : CustomiseLeaves). x .costs) s)
 
 -- distance's promise: the answer
 pub distance-determined : (order rank : List ℕ) (G : Graph) (C : EdgeCosts) (from to : ℕ) (r r′ : DistanceAnswer)
@@ -128,6 +133,16 @@ pub distance-determined : (order rank : List ℕ) (G : Graph) (C : EdgeCosts) (f
     → r ≡ r′
 distance-determined order rank G C from to r r′ e e′ =
     distance-answers r r′ (ap (λ (x : DistanceLeaves). x .reply) (e ∙ sym e′))
+
+-- the promise of either sweep: the answer and the distances
+pub sweep-determined : (order rank : List ℕ) (G : Graph) (C : EdgeCosts) (d : Direction) (j : ℕ) (distances₀ : List ℕ)
+    (r r′ : FillAnswer) (distances distances′ : List ℕ)
+    → sweepLeft distances (fillReply r) ≡ sweepLeaves order rank G C d j distances₀
+    → sweepLeft distances′ (fillReply r′) ≡ sweepLeaves order rank G C d j distances₀
+    → (r ≡ r′) × (distances ≡ distances′)
+sweep-determined order rank G C d j distances₀ r r′ distances distances′ e e′ =
+    let s = e ∙ sym e′ in
+    (fill-answers r r′ (ap (λ (x : SweepLeaves). x .reply) s), ap (λ (x : SweepLeaves). x .distances) s)
 
 -- route's promise: answer and route
 pub route-determined : (N : Net) (rank : List ℕ) (G : Graph) (C : EdgeCosts) (from to : ℕ) (route₀ : List ℕ)

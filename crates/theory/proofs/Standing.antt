@@ -1,6 +1,6 @@
 -- Accepted roads, order and graph, with costs as customising left them: they meet every hypothesis of the theory of ways, so the distance
 -- between two positions is the least walk between them. Assumes nothing.
-use Prim.Native.Nat.{ℕ, _+_, _≤_, _<_}
+use Prim.Native.Nat.{ℕ, _≤_, _<_}
 use mathlib.Core.Path.{_≡_, ap, _∙_}
 use mathlib.Core.Logic.{inl, inr, _≢_}
 use mathlib.Core.List.{List}
@@ -18,7 +18,7 @@ use Rattle.rules.specs.Hierarchy.{EdgeCosts, linked, held, rowOf, along}
 use Rattle.rules.specs.Customised.{costAt, costList}
 use Rattle.rules.specs.Distance.{label, distance}
 use Rattle.rules.specs.Calls.{shortcutCost, customisedCosts}
-use Rattle.theory.proofs.Words.{either, split, true-holds, eqb-e, length-tabulate, getD-tabulate}
+use Rattle.theory.proofs.Words.{either, split, true-holds, eqb-e, length-tabulate, tabulate-at}
 use Rattle.theory.proofs.Customised.{customised-direct, customised-over, customised-made}
 use Rattle.theory.proofs.Distance.{distance-le, distance-made}
 use Rattle.theory.proofs.Parents.{labels}
@@ -113,8 +113,8 @@ module _ {N : Net} {rank : List ℕ} {G : Graph} {C : EdgeCosts} (A : Accepted N
   list-small d room k =
       either (split (ltb k room))
       (λ e.
-      let g = getD-tabulate at 0 room k 0 (ltb-true k room e) in
-      omega (arith, at-small (0 + k)))
+      let g = tabulate-at at room k 0 (ltb-true k room e) in
+      omega (arith, at-small k))
       (λ e.
       let g = List·getD-eq-default (tabulate at 0 room) 0 {n = k} (let x = ltb-false k room e in omega (arith, length-tabulate at 0 room)) in
       omega arith)
@@ -196,10 +196,14 @@ module _ {N : Net} {rank : List ℕ} {G : Graph} {C : EdgeCosts} (A : Accepted N
           shortest-of-all joins held-customised {M = greatest} (λ u v r. road-lawful u v (road-open u v r) .1)
           (omega (arith, mul-le-mul-right greatest few)) from-start from-target meets l p
 
-      -- where there is a walk there is a distance
-      pub far-some : {w : ℕ} → s < size N → Walk closed (roadBetween N) s t w → far < none
+      -- where there is a walk there is a distance, at most 4,095 × 500,000 as n - 1 roads may cost
+      pub far-some : {w : ℕ} → s < size N → Walk closed (roadBetween N) s t w → far ≤ 2047500000
       far-some l p =
           let few = A .few in
           let (x, q, c, b) =
           bounded {M = greatest} (λ u v r. joins .below (joins .turn (joins .roads r))) (λ u v r. road-lawful u v (road-open u v r) .1) l p in
           omega (arith, far-least l q, mul-le-mul-right greatest few)
+
+      -- so a distance that is not the number for none is at most that: below CLOSED
+      pub far-small : s < size N → far < none → far ≤ 2047500000
+      far-small l h = far-some l (far-walk h)

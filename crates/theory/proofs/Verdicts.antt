@@ -1,13 +1,16 @@
 -- What a check's verdict tells: it passes exactly if there is no fault. Assumes nothing.
 use Prim.Native.Nat.{ℕ, _+_, _≤_, _<_}
 use mathlib.Core.Path.{_≡_, refl, sym, subst}
+use mathlib.Core.Logic.{_≢_}
 use mathlib.Core.Bool.{Bool, true, false}
 use mathlib.Core.List.{List, [], _∷_}
 use native.Mathlib.Omega.{arith}
 use lib.Dec.{T, eqb, ltb}
 use borrow.Author.Tests.{ltb-false, lt-ltb, eqb-true, eqb-false}
 use Rattle.rules.specs.Words.{lowest}
+use Rattle.rules.specs.Replies.{Reply, refused}
 use Rattle.rules.specs.Refusals.{Verdict, passes, fails, firstFailure, failsIf, failsAt}
+use Rattle.rules.specs.Calls.{unless}
 use Rattle.theory.proofs.Words.{lowest-is, lowest-before, lowest-none, either, split, cond-false, ltb-e, clash}
 
 -- a check that passes and one that fails are two things
@@ -66,6 +69,14 @@ faultless-fails k {f} {n} {i} s h t =
 -- none up to the end
 pub faultless-passes : (k : ℕ) {f : ℕ → Bool} {n i : ℕ} → Faultless f n i → n ≤ i → passes ≡ failsAt k f n
 faultless-passes k {f} {n} {i} s h = sym (failsAt-i k f n (λ q l t. s .none q (omega arith) t))
+
+-- ---- what is left by the checks
+
+-- a reply that no refusal gives comes only past the checks
+pub unless-e : {A : Type 0} (reply : A → Reply) (v : Verdict) (refusal : Reply → A) (rest : A) (told : Reply)
+    → ((k p : ℕ) → reply (refusal (refused k p)) ≢ told) → reply (unless v refusal rest) ≡ told → v ≡ passes
+unless-e reply passes refusal rest told n e = refl
+unless-e reply (fails k p) refusal rest told n e = absurd (n k p e)
 
 -- ---- checks one after the other
 

@@ -5,7 +5,7 @@ use mathlib.Core.Logic.{_⊎_, inl, inr, _≢_}
 use mathlib.Core.Bool.{Bool, true, false, cond, _||_}
 use mathlib.Core.List.{List, [], _∷_}
 use native.Mathlib.Omega.{arith}
-use native.Mathlib.Nat.{add-zero}
+use native.Mathlib.Nat.{add-zero, zero-add}
 use lib.Dec.{T, eqb, ltb, leb}
 -- the kit's laws of tests, under our names
 pub use lib.Dec.{not-T as not-i, T-not as not-e, eqb→eq as eqb-e, ltb→lt as ltb-e, lt→ltb as ltb-i, leb→le as leb-e, le→leb as leb-i}
@@ -274,18 +274,22 @@ unfolding tabulate
 length-tabulate f i zero = refl
 length-tabulate f i (suc k) = ap suc (length-tabulate f (suc i) k)
 
-pub getD-tabulate : (f : ℕ → ℕ) (i k j d : ℕ) → j < k → getD (tabulate f i k) j d ≡ f (i + j)
+getD-tabulate : (f : ℕ → ℕ) (i k j d : ℕ) → j < k → getD (tabulate f i k) j d ≡ f (i + j)
 unfolding tabulate
 getD-tabulate f i zero j d h = absurd (omega arith)
 getD-tabulate f i (suc k) zero d h = ap f (sym (add-zero i))
 getD-tabulate f i (suc k) (suc j) d h =
     getD-tabulate f (suc i) k j d (omega arith) ∙ ap f (let e : suc i + j ≡ i + suc j = omega arith in e)
 
+-- a table from 0 has at each place what f gives for the place
+pub tabulate-at : (f : ℕ → ℕ) (k j d : ℕ) → j < k → getD (tabulate f 0 k) j d ≡ f j
+tabulate-at f k j d h = getD-tabulate f 0 k j d h ∙ ap f (zero-add j)
+
 -- a list that has at each place what f gives there is the table of f
 pub is-tabulate : (f : ℕ → ℕ) (xs : List ℕ) → ((k : ℕ) → k < length xs → getD xs k 0 ≡ f k) → xs ≡ tabulate f 0 (length xs)
 is-tabulate f xs h =
     ext-getD 0 xs (tabulate f 0 (length xs)) (sym (length-tabulate f 0 (length xs)))
-    (λ k l. h k l ∙ sym (getD-tabulate f 0 (length xs) k 0 l ∙ ap f (let e : 0 + k ≡ k = omega arith in e)))
+    (λ k l. h k l ∙ sym (tabulate-at f (length xs) k 0 l))
 
 -- two numbers are the same or differ
 pub same-or-not : (a b : ℕ) → (a ≡ b) ⊎ (a ≢ b)
