@@ -1,17 +1,38 @@
 -- The test of one row: a law for each way that it goes. Assumes nothing.
 use Prim.Native.Nat.{ℕ, zero, suc, _+_, _-_, _≤_, _<_}
 use mathlib.Core.Path.{_≡_, refl, sym, ap, _∙_}
+use mathlib.Core.Logic.{_≢_}
 use mathlib.Core.Bool.{Bool, true, false, _&&_}
 use native.Mathlib.Omega.{arith}
 use native.Mathlib.Numerals.{add-one}
-use lib.Dec.{ltb, leb}
+use lib.Dec.{eqb, ltb, leb}
 use lib.ListN.{length, getD}
 use lib.Seq.{slice, slice-cons, slice-empty}
-use borrow.Author.Tests.{lt-ltb, le-ltb, le-leb, lt-leb}
+use borrow.Author.Tests.{lt-ltb, le-leb, lt-leb, ltb-true, eqb-true, eqb-false}
 use Rattle.rules.specs.Graph.{Graph}
 use Rattle.rules.specs.Hierarchy.{rowAt}
+use Rattle.theory.proofs.Words.{either, split, true-false}
 use Rattle.theory.proofs.Rows.{next-row}
 use Rattle.hierarchy.specs.Tests.{inOrder, underParent, rowHolds, RowsFrom}
+
+-- a third test that passes is none
+and-true : (x y : Bool) → (x && y && true) ≡ (x && y)
+and-true false y = refl
+and-true true false = refl
+and-true true true = refl
+
+-- a third test after two that fail
+and-false : (x y z : Bool) → false ≡ (x && y) → (x && y && z) ≡ false
+and-false false y z e = refl
+and-false true false z e = refl
+and-false true true z e = true-false (sym e)
+
+-- a parent above p and below n
+pub above-e : (n p c : ℕ) → true ≡ (ltb p c && ltb c n) → (p < c) × (c < n)
+above-e n p c e =
+    either (split (ltb p c))
+    (λ x. either (split (ltb c n)) (λ y. (ltb-true p c x, ltb-true c n y)) (λ y. true-false (rw (x, y) at e)))
+    (λ x. true-false (rw x at e))
 
 module _ (n : ℕ) (G : Graph) (p a b : ℕ) (low : a ≡ getD (G .first) p 0) (high : b ≡ getD (G .first) (p + 1) 0) where
   -- the row's test by its ends
@@ -19,14 +40,13 @@ module _ (n : ℕ) (G : Graph) (p a b : ℕ) (low : a ≡ getD (G .first) p 0) (
   unfolding rowHolds
   by-ends = rw (low, high, next-row G p) refl
 
-  -- the row ends before it starts
-  pub row-falls : b < a → false ≡ rowHolds n G p
-  row-falls l = sym (by-ends ∙ rw (lt-leb a b l) refl)
-
-  -- there is nothing in the row
-  pub row-empty : a ≡ b → true ≡ rowHolds n G p
+  -- the row ends before it starts, or there is nothing in it
+  pub row-none : b ≤ a → eqb a b ≡ rowHolds n G p
   unfolding underParent
-  row-empty e = sym (by-ends ∙ rw (le-leb a b (omega arith), e, slice-empty b (G .heads)) refl)
+  row-none l =
+      either (split (eqb a b))
+      (λ x. let e : a ≡ b = eqb-true a b x in x ∙ sym (by-ends ∙ rw (le-leb a b (omega arith), e, slice-empty b (G .heads)) refl))
+      (λ x. let e : a ≢ b = eqb-false a b x in x ∙ sym (by-ends ∙ rw (lt-leb a b (omega arith)) refl))
 
   module _ (c : ℕ) (parent : c ≡ getD (G .heads) a 0) (filled : a < b) (fits : b ≤ length (G .heads)) where
     -- the row's test by its parent
@@ -34,13 +54,16 @@ module _ (n : ℕ) (G : Graph) (p a b : ℕ) (low : a ≡ getD (G .first) p 0) (
     unfolding underParent
     by-parent = by-ends ∙ rw (le-leb a b (omega arith), slice-cons a b (G .heads) 0 filled fits, add-one a, parent) refl
 
-    -- the parent is no higher than p
-    pub row-low : c ≤ p → false ≡ rowHolds n G p
-    row-low l = sym (by-parent ∙ rw (le-ltb p c l) refl)
+    -- there is no rest: the parent decides
+    pub row-alone : b ≤ a + 1 → (ltb p c && ltb c n) ≡ rowHolds n G p
+    unfolding inOrder
+    row-alone l =
+        let e : b ≡ a + 1 = omega arith in
+        sym (by-parent ∙ rw (e, slice-empty (a + 1) (G .heads)) (and-true (ltb p c) (ltb c n)))
 
-    -- the parent is no position
-    pub row-high : p < c → n ≤ c → false ≡ rowHolds n G p
-    row-high l m = sym (by-parent ∙ rw (lt-ltb p c l, le-ltb c n m) refl)
+    -- the parent is no higher than p, or no position
+    pub row-parent : false ≡ (ltb p c && ltb c n) → false ≡ rowHolds n G p
+    row-parent e = sym (by-parent ∙ and-false (ltb p c) (ltb c n) (inOrder (slice (a + 1) b (G .heads)) (rowAt G c)) e)
 
     -- the rest of the row decides
     pub row-rest : (from to : ℕ) (r : Bool) → p < c → c < n → from ≡ getD (G .first) c 0 → to ≡ getD (G .first) (c + 1) 0 → r ≡ inOrder (slice (a + 1) b (G .heads)) (slice from to (G .heads))

@@ -2,7 +2,9 @@
 
 ghost use Prim.Native.Nat.{suc, _+_, _≤_, _<_};
 ghost use mathlib.Core.Path.{_≡_};
+ghost use mathlib.Core.Bool.{_&&_};
 ghost use mathlib.Core.List.{[], _∷_};
+ghost use lib.Dec.{ltb};
 ghost use lib.ListN.{length};
 ghost use lib.Seq.{slice};
 ghost use Rattle.rules.specs.Graph.{graph};
@@ -40,51 +42,105 @@ fn ranks_order(order: &[u32], rank: &[u32]) -> bool
     true
 }
 
-// The entries from k to end are those that stand `gap` places behind them: it goes to the end in any case, so that many are compared at once.
-fn same_entries(row_heads: &[u32], k: usize, end: usize, gap: usize) -> bool
-    requires { ⌜ (k ≤ end) × (end + gap ≤ length (now «row_heads»)) ⌝ }
-    ensures { λ r. ⌜ r ≡ inOrder (slice k end (now («row_heads» .entry))) (slice (k + gap) (end + gap) (now («row_heads» .entry))) ⌝ }
+// The eight entries from k on are those that stand `gap` places behind them: it goes through all in any case, so that they are compared at once.
+fn eight_same(row_heads: &[u32], k: usize, gap: usize) -> bool
+    requires { ⌜ k + 8 + gap ≤ length (now «row_heads») ⌝ }
+    ensures { λ r. ⌜ r ≡ inOrder (slice k (k + 8) (now («row_heads» .entry))) (slice (k + gap) (k + 8 + gap) (now («row_heads» .entry))) ⌝ }
 {
     let mut same = true;
-    let mut at = k;
-    while at < end {
+    let mut i = 0;
+    while i < 8 {
+        let at = k + i;
         if row_heads[at + gap] != row_heads[at] {
             same = false;
         }
-        at += 1;
+        i += 1;
     }
     same
 }
 
-// The entries from k to end come in order among those from j to stop, which stand behind them: the gap from an entry to its like only grows,
-// and an end needs watching only where it grows.
-fn comes_in(row_heads: &[u32], k: usize, end: usize, j: usize, stop: usize) -> bool
-    requires { ⌜ (k ≤ end) × (end ≤ j) × (j ≤ stop) × (stop ≤ length (now «row_heads»)) ⌝ }
-    ensures { λ r. ⌜ r ≡ inOrder (slice k end (now («row_heads» .entry))) (slice j stop (now («row_heads» .entry))) ⌝ }
+// The entries from k to end, eight or more, are those that stand `gap` places behind them: by eights, of which the last goes back over
+// entries of the one before, so that none are left over.
+fn same_entries(row_heads: &[u32], k: usize, end: usize, gap: usize) -> bool
+    requires { ⌜ (k + 8 ≤ end) × (end + gap ≤ length (now «row_heads»)) ⌝ }
+    ensures { λ r. ⌜ r ≡ inOrder (slice k end (now («row_heads» .entry))) (slice (k + gap) (end + gap) (now («row_heads» .entry))) ⌝ }
 {
-    let most = stop - end;
-    let mut gap = j - k;
-    if most < gap {
-        return false;
-    }
-    if gap == most {
-        return same_entries(row_heads, k, end, gap);
-    }
+    let last = end - 8;
     let mut at = k;
-    while at < end {
-        if row_heads[at + gap] == row_heads[at] {
-            at += 1;
-        } else {
-            if gap == most {
-                return false;
-            }
-            gap += 1;
+    while at < last {
+        if !eight_same(row_heads, at, gap) {
+            return false;
         }
+        at += 8;
     }
-    true
+    eight_same(row_heads, last, gap)
 }
 
-// The row of p: empty, or the parent is above p and below n and the rest comes in order in the parent's row.
+// The entries from k to end are met in order from j to stop: two places at a turn, with the entry that is wanted at hand. The end of the
+// entries is asked for once in a turn, so what is wanted may come to stand behind them.
+fn met_in(row_heads: &[u32], k: usize, end: usize, j: usize, stop: usize) -> bool
+    requires { ⌜ (k < end) × (end ≤ j) × (j ≤ stop) × (stop ≤ length (now «row_heads»)) ⌝ }
+    ensures { λ r. ⌜ r ≡ inOrder (slice k end (now («row_heads» .entry))) (slice j stop (now («row_heads» .entry))) ⌝ }
+{
+    let mut at = k;
+    let mut want = row_heads[k];
+    let mut next = j;
+    while next + 1 < stop {
+        if row_heads[next] == want {
+            at += 1;
+            want = row_heads[at];
+            if row_heads[next + 1] == want {
+                at += 1;
+                want = row_heads[at];
+            }
+            if end <= at {
+                return true;
+            }
+        } else if row_heads[next + 1] == want {
+            at += 1;
+            want = row_heads[at];
+            if end <= at {
+                return true;
+            }
+        }
+        next += 2;
+    }
+    if next < stop {
+        if row_heads[next] == want {
+            return at + 1 == end;
+        }
+    }
+    false
+}
+
+// The entries from k to end come in order among those from j to stop, which stand behind them: where there are as many, all are the same,
+// and eight or more are soonest compared by eights.
+fn comes_in(row_heads: &[u32], k: usize, end: usize, j: usize, stop: usize) -> bool
+    requires { ⌜ (k < end) × (end ≤ j) × (j ≤ stop) × (stop ≤ length (now «row_heads»)) ⌝ }
+    ensures { λ r. ⌜ r ≡ inOrder (slice k end (now («row_heads» .entry))) (slice j stop (now («row_heads» .entry))) ⌝ }
+{
+    let many = end - k;
+    if stop - j == many {
+        if 8 <= many {
+            return same_entries(row_heads, k, end, j - k);
+        }
+    }
+    met_in(row_heads, k, end, j, stop)
+}
+
+// A parent is above p and below n: it has a row, and one that is known to hold.
+fn is_above(n: usize, p: Position, parent: Position) -> bool
+    ensures { λ r. ⌜ r ≡ (ltb (p .0) (parent .0) && ltb (parent .0) n) ⌝ }
+{
+    if parent.0 <= p.0 {
+        return false;
+    }
+    let above = parent.0 as usize;
+    above < n
+}
+
+// The row of p: empty, or the parent is above p and below n and the rest comes in order in the parent's row. A row with no rest is done with
+// first, so that the others need not ask for one.
 fn row_holds(n: usize, first: &[u32], row_heads: &[u32], p: Position) -> bool
     requires { ⌜ (p .0 < n) × (length (now first) ≡ suc n) × (RowsFrom n (graph (now first) (now «row_heads»)) (p .0 + 1)) ⌝ }
     ensures { λ r. ⌜ r ≡ rowHolds n (graph (now (first .entry)) (now («row_heads» .entry))) (p .0) ⌝ }
@@ -92,23 +148,21 @@ fn row_holds(n: usize, first: &[u32], row_heads: &[u32], p: Position) -> bool
     let row = p.0 as usize;
     let from = wide(first[row]);
     let to = wide(first[row + 1]);
-    if to < from {
-        return false;
-    }
-    if from == to {
-        return true;
+    let rest = from + 1;
+    if to <= rest {
+        if to <= from {
+            return from == to;
+        }
+        return is_above(n, p, Position(row_heads[from]));
     }
     let parent = Position(row_heads[from]);
-    if parent.0 <= p.0 {
+    if !is_above(n, p, parent) {
         return false;
     }
     let above = parent.0 as usize;
-    if n <= above {
-        return false;
-    }
     let low = wide(first[above]);
     let high = wide(first[above + 1]);
-    comes_in(row_heads, from + 1, to, low, high)
+    comes_in(row_heads, rest, to, low, high)
 }
 
 // first and row_heads are the rows of a hierarchy of n positions: from the last row down, so that a parent's row is known to hold.
