@@ -8,13 +8,14 @@ ghost use Rattle.rules.specs.Net.{net};
 ghost use Rattle.rules.specs.Graph.{graph};
 ghost use Rattle.rules.specs.Hierarchy.{edgeCosts};
 ghost use Rattle.rules.specs.Refusals.{firstFailure, check1, check2, check3, lacksEdge, check8};
-ghost use Rattle.rules.specs.Calls.{buildChecks, customiseChecks, distanceChecks, routeChecks};
+ghost use Rattle.rules.specs.Calls.{buildChecks, customiseChecks, distanceChecks, sweepChecks, routeChecks};
 ghost use Rattle.lists.specs.Lent.{verdict};
 ghost use Rattle.checks.specs.Edges.{Arcs};
 use hierarchy::check_graph;
 use lists::Check;
 use lists::check_cost_lists;
 use lists::check_costs;
+use lists::check_distances;
 use lists::check_ends;
 use lists::check_junctions;
 use lists::check_order;
@@ -174,6 +175,25 @@ pub fn check_distance(
         return Check::Fails(refusal);
     }
     check_question(n, from, to)
+}
+
+// All of a sweep's checks but 16: distance's, of the one junction, and then 15.
+pub fn check_sweep(
+    order: &[u32],
+    rank: &[u32],
+    first: &[u32],
+    row_heads: &[u32],
+    up: &[u32],
+    down: &[u32],
+    j: Junction,
+    distances: &[u32],
+) -> Check
+    ensures { λ r. ⌜ verdict r ≡ sweepChecks (now (order .entry)) (now (rank .entry)) (graph (now (first .entry)) (now («row_heads» .entry))) (edgeCosts (now (up .entry)) (now (down .entry))) (j .0) (now (distances .entry)) ⌝ }
+{
+    if let Check::Fails(refusal) = check_distance(order, rank, first, row_heads, up, down, j, j) {
+        return Check::Fails(refusal);
+    }
+    check_distances(order.len(), distances)
 }
 
 // All of route's checks but 12 and 13: customise's, and then 11.

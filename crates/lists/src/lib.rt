@@ -6,7 +6,7 @@ ghost use mathlib.Core.List.{[], _∷_};
 ghost use lib.ListN.{length, getD};
 ghost use Rattle.rules.specs.Net.{rankList};
 ghost use Rattle.rules.specs.Graph.{graph};
-ghost use Rattle.rules.specs.Refusals.{check1, check2, check3, check4, check5, unlawful, check9, check10, check11};
+ghost use Rattle.rules.specs.Refusals.{check1, check2, check3, check4, check5, unlawful, check9, check10, check11, check15};
 ghost use Rattle.rules.specs.Hierarchy.{edgeCosts};
 ghost use Rattle.theory.specs.Orders.{Ordered};
 ghost use Rattle.theory.specs.Rows.{Rows, count};
@@ -183,6 +183,16 @@ pub fn check_question(n: usize, from: Junction, to: Junction) -> Check
     }
     if n <= wide(to.0) {
         return Check::Fails(Refusal::StartOrTarget);
+    }
+    Check::Passes
+}
+
+// 15: the list of distances is n long.
+pub fn check_distances(n: usize, distances: &[u32]) -> Check
+    ensures { λ r. ⌜ verdict r ≡ check15 n (now (distances .entry)) ⌝ }
+{
+    if distances.len() != n {
+        return Check::Fails(Refusal::DistanceRoom);
     }
     Check::Passes
 }
