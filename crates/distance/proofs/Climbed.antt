@@ -1,42 +1,32 @@
 -- From a position to its parent: the labels over the rows of a hierarchy, whatever the cost lists hold. Assumes nothing.
-use Prim.Native.Nat.{ℕ, suc, _+_, _-_, _≤_, _<_, min}
+use Prim.Native.Nat.{ℕ, suc, _+_, _≤_, _<_, min}
 use mathlib.Core.Path.{_≡_, refl, sym, ap, _∙_}
 use mathlib.Core.Logic.{_≢_}
 use mathlib.Core.Bool.{Bool}
 use mathlib.Core.List.{List}
 use native.Mathlib.Omega.{arith}
 use lib.Dec.{T, ltb}
-use lib.ListN.{length, getD, set, drop, replicate, length-take, length-drop, length-set, length-replicate, getD-replicate}
-use lib.Seq.{getD-take, getD-drop, getD-set-same, getD-set-other}
+use lib.ListN.{length, getD, set, replicate, length-set, length-replicate, getD-replicate}
+use lib.Seq.{getD-set-same, getD-set-other}
 use borrow.Author.Tests.{ltb-true, ltb-false}
 use Rattle.rules.specs.Costs.{closed, none, labelOver}
 use Rattle.rules.specs.Distance.{handsOn, label}
 use Rattle.rules.specs.Graph.{Graph}
 use Rattle.rules.specs.Hierarchy.{EdgeCosts, linked, held, along}
-use Rattle.rules.specs.declared.Direction.the-variants.{Up, Down}
 use Rattle.rules.specs.declared.Direction.{Direction}
 use Rattle.theory.specs.Parents.{Parent}
 use Rattle.theory.specs.Rows.{InRow, count, Lists}
 use Rattle.theory.proofs.Best.{best-start, best-on}
 use Rattle.theory.proofs.Distance.{label-lower, label-small}
-use Rattle.theory.proofs.Held.{step-small, held-up, held-down}
+use Rattle.theory.proofs.Held.{step-small}
 use Rattle.theory.proofs.Parents.{chain-only}
-use Rattle.theory.proofs.Rows.{in-heads, linked-e, linked-i, linked-third}
+use Rattle.theory.proofs.Rows.{linked-i, linked-third}
 use Rattle.theory.proofs.Words.{either, split, true-holds, true-false, holds-true}
 use Rattle.lists.specs.Lent.{part, chosen}
 use Rattle.distance.specs.Labelled.{Climbed, Offered, kept, RowOf, HandedOn}
-use Rattle.distance.proofs.Parent.{RowEnds, in-lists, in-part, between-ends, lone, parent, parent-below}
+use Rattle.distance.proofs.Parent.{RowEnds, lone, parent, parent-below}
+use Rattle.distance.proofs.RowPart.{row-at, row-within, row-entry, costs-long, cost-at}
 use Rattle.distance.proofs.Stage.{Stage, hands-none, hands-apart, hands-edge, stage-label, stage-top, stage-skip, stage-turn, stage-all}
-
--- ---- parts of lists
-
--- as many as asked for
-length-part : (f t : ℕ) (l : List ℕ) → t ≤ length l → length (part f t l) ≡ t - f
-length-part f t l h = length-take (t - f) (drop f l) ∙ omega (arith, length-drop f l)
-
--- and each is the whole list's
-part-at : (f t : ℕ) (l : List ℕ) (i : ℕ) → i < t - f → getD (part f t l) i 0 ≡ getD l (f + i) 0
-part-at f t l i h = getD-take (t - f) (drop f l) i 0 h ∙ getD-drop f l i 0
 
 -- ---- one turn for each position on the chain
 
@@ -46,24 +36,6 @@ pub record Rung (G : Graph) (C : EdgeCosts) (d : Direction) (s q : ℕ) (labels 
   pub below : q < count (G .first)
   pub above : s ≤ q
   pub near : (p : ℕ) → q < p → p < count (G .first) → getD labels p 0 < none → T (linked G q p)
-
-module _ {G : Graph} {C : EdgeCosts} (L : Lists G C) (d : Direction) where
-  -- both lists reach as far as the rows
-  chosen-long : (e : ℕ) → e ≤ getD (G .first) (count (G .first)) 0 → e ≤ length (chosen d C)
-  chosen-long e h = by d
-    where
-      by : (d : Direction) → e ≤ length (chosen d C)
-      by Up = omega (arith, L .up-long)
-      by Down = omega (arith, L .down-long)
-
-  -- the chosen list holds at an edge's place what the definition says
-  served : (q k : ℕ) → q < count (G .first) → InRow G q k
-      → getD (chosen d C) k 0 ≡ along d (held G C) q (getD (G .heads) k 0)
-  served q k l r = by d (omega (arith, chosen-long (suc k) (in-heads (L .rows) q k l r .0)))
-    where
-      by : (d : Direction) → k < length (chosen d C) → getD (chosen d C) k 0 ≡ along d (held G C) q (getD (G .heads) k 0)
-      by Up h = held-up (L .rows) C q k l r h
-      by Down h = held-down (L .rows) C q k l r h
 
 -- the walk begins at s
 pub rung-start : {G : Graph} {C : EdgeCosts} → Lists G C → (d : Direction) (s : ℕ) (labels came : List ℕ)
@@ -113,14 +85,6 @@ module _ {G : Graph} {C : EdgeCosts} (L : Lists G C) {d : Direction} {s q from t
       (λ e. absurd (n (K .near j a b (ltb-true (getD labels j 0) none e))))
       (λ e. omega (arith, ltb-false (getD labels j 0) none e, stage-top (K .state) j b))
 
-  -- the part of the heads is the row, entry by entry
-  row-long : length (part from to (G .heads)) ≡ to - from
-  row-long = length-part from to (G .heads) (in-lists (L .rows) E .1)
-
-  row-at : (i : ℕ) → i < length (part from to (G .heads)) → InRow G q (from + i) × (getD (part from to (G .heads)) i 0 ≡ getD (G .heads) (from + i) 0)
-  row-at i h =
-      (in-part (L .rows) E (from + i) (omega arith) (omega (arith, row-long)), part-at from to (G .heads) i (omega (arith, row-long)))
-
   module _ (us : (k : ℕ) → getD (C .up) k 0 ≤ closed) (ds : (k : ℕ) → getD (C .down) k 0 ≤ closed) where
     -- what `hand_on` asks
     pub rung-row : RowOf q (part from to (G .heads)) (part from to (chosen d C)) labels came
@@ -128,13 +92,12 @@ module _ {G : Graph} {C : EdgeCosts} (L : Lists G C) {d : Direction} {s q from t
         record {
           long = K .state .long;
           came-long = K .state .came-long;
-          same = row-long ∙ sym (length-part from to (chosen d C) (chosen-long L d to (in-lists (L .rows) E .2)));
+          same = costs-long L E d;
           own = omega (arith, K .below, L .few);
-          within = λ i l.
-              let (r, e) = row-at i l in omega (arith, L .rows .below q (from + i) (K .below) r, L .few);
+          within = λ i l. omega (arith, row-within L E i l, L .few);
           climbs = λ i j x l.
-              let (r, e) = row-at i (omega arith) in
-              let (r′, e′) = row-at j l in
+              let (r, e) = row-at L E i (omega arith) in
+              let (r′, e′) = row-at L E j l in
               omega (arith, L .rows .climb q (from + i) (from + j) (K .below) r r′ (omega arith));
           small = λ n.
               omega (
@@ -166,7 +129,7 @@ module _ {G : Graph} {C : EdgeCosts} (L : Lists G C) {d : Direction} {s q from t
         → (getD labels′ p 0 ≡ getD labels p 0) × (getD came′ p 0 ≡ getD came p 0)
     unchanged p n =
         let absent : (j : ℕ) → j < length (part from to (G .heads)) → getD (part from to (G .heads)) j 0 ≢ p =
-        λ j h e. n (from + j) (row-at j h .0) (sym (row-at j h .1) ∙ e) in
+        λ j h e. n (from + j) (row-at L E j h .0) (sym (row-at L E j h .1) ∙ e) in
         (H .labels-kept p absent, H .came-kept p absent)
 
     -- so what is not joined to q
@@ -180,18 +143,11 @@ module _ {G : Graph} {C : EdgeCosts} (L : Lists G C) {d : Direction} {s q from t
         either (split (linked G q p))
         (λ t.
         let u : T (linked G q p) = true-holds (linked G q p) t in
-        let (k, r, e) = linked-e (L .rows) q p u h in
-        let (lo, hi) = between-ends (L .rows) E k r in
-        let j = k - from in
-        let i : from + j ≡ k = omega arith in
-        let z : j < length (part from to (G .heads)) = omega (arith, row-long) in
-        let eh : getD (part from to (G .heads)) j 0 ≡ p = row-at j z .1 ∙ ap (λ m. getD (G .heads) m 0) i ∙ e in
-        let es : getD (part from to (chosen d C)) j 0 ≡ step q p =
-        part-at from to (chosen d C) j (omega arith) ∙ ap (λ m. getD (chosen d C) m 0) i
-        ∙ served L d q k (K .below) r ∙ ap (step q) e in
+        let (j, z, e) = row-entry L E p h u in
+        let es : getD (part from to (chosen d C)) j 0 ≡ step q p = cost-at L E d j z ∙ ap (step q) e in
         let g : labelOver (getD labels q 0) (getD (part from to (chosen d C)) j 0) ≡ handsOn (linked G) step (label (linked G) step s) p q =
         rw (es, stage-label (K .state) q (K .below) (omega arith)) (sym (hands-edge (linked G) step (label (linked G) step s) p q u)) in
-        rw (g, eh) at (H .here j z))
+        rw (g, e) at (H .here j z))
         (λ t.
         let n : T (linked G q p) → ⊥ = λ u. true-false (sym (holds-true (linked G q p) u) ∙ t) in
         kept (omega (arith, hands-apart (linked G) step (label (linked G) step s) p q n)) (apart p n .0) (apart p n .1))

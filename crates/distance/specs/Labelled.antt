@@ -1,5 +1,5 @@
 -- What the walks up the chains of parents ask and promise. Assumes nothing.
-use Prim.Native.Nat.{ℕ, _≤_, _<_, min}
+use Prim.Native.Nat.{ℕ, _+_, _≤_, _<_, min}
 use mathlib.Core.Path.{_≡_}
 use mathlib.Core.Logic.{_≢_}
 use mathlib.Core.Bool.{Bool}
@@ -7,7 +7,7 @@ use mathlib.Core.List.{List}
 use lib.Dec.{T, eqb}
 use lib.ListN.{length, getD}
 use Rattle.rules.specs.Calls.{listedDistance}
-use Rattle.rules.specs.Costs.{none, labelOver}
+use Rattle.rules.specs.Costs.{closed, none, labelOver}
 use Rattle.rules.specs.Distance.{label, labelFrom, meeting}
 use Rattle.rules.specs.Graph.{Graph}
 use Rattle.rules.specs.Hierarchy.{EdgeCosts, linked, held, along}
@@ -42,6 +42,10 @@ pub record OfferedTo (p q o : ℕ) (labels came labels′ came′ : List ℕ) : 
 
 -- ---- one row
 
+-- what is known of a position is none, or leaves room for a cost
+abbrev pub Small : (known : ℕ) → Type 0
+Small known = known ≢ none → known + closed < none
+
 -- the row of q and its costs, and the labels so far
 pub record RowOf (q : ℕ) (row costs labels came : List ℕ) : Type 0 where
   pub long : length labels ≡ 4096
@@ -50,7 +54,7 @@ pub record RowOf (q : ℕ) (row costs labels came : List ℕ) : Type 0 where
   pub own : q < 4096
   pub within : (i : ℕ) → i < length row → getD row i 0 < 4096
   pub climbs : (i j : ℕ) → i < j → j < length row → getD row i 0 < getD row j 0
-  pub small : getD labels q 0 ≢ none → getD labels q 0 < 17592186044416
+  pub small : Small (getD labels q 0)
 
 -- the label `mine` of q has been handed on along the first i edges of its row, and nothing else has changed
 pub record HandedOn (q mine : ℕ) (row costs : List ℕ) (i : ℕ) (labels came labels′ came′ : List ℕ) : Type 0 where

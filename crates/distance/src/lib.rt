@@ -4,7 +4,7 @@ ghost use Prim.Native.Nat.{_+_, _<_};
 ghost use mathlib.Core.Path.{_≡_};
 ghost use lib.ListN.{length, getD, replicate};
 ghost use Rattle.rules.specs.Words.{sumTo};
-ghost use Rattle.rules.specs.Costs.{none, labelOver};
+ghost use Rattle.rules.specs.Costs.{closed, none, labelOver};
 ghost use Rattle.rules.specs.Hierarchy.{edgeCosts, linked, held, along};
 ghost use Rattle.rules.specs.Calls.{listedDistance};
 ghost use Rattle.rules.specs.Graph.{graph};
@@ -50,7 +50,7 @@ fn offer(
     p: Position,
     cost: Cost,
 )
-    requires { ⌜ (length (now labels) ≡ 4096) × (length (now came) ≡ 4096) × (q .0 < 4096) × (p .0 < 4096) × (mine < 17592186044416) ⌝ }
+    requires { ⌜ (length (now labels) ≡ 4096) × (length (now came) ≡ 4096) × (q .0 < 4096) × (p .0 < 4096) × (mine + closed < none) ⌝ }
     ensures { λ _. ⌜ OfferedTo (p .0) (q .0) (labelOver mine (cost .0)) (now (labels .entry)) (now (came .entry)) (now (labels .exit)) (now (came .exit)) ⌝ }
 {
     let to = p.0 as usize;
@@ -85,7 +85,7 @@ fn hand_on(
 }
 
 // The labels from s along its chain of parents, with up costs or with down costs, and for each the lowest position that it came from.
-fn climb<'a>(
+pub fn climb<'a>(
     first: &[u32],
     row_heads: &[u32],
     up: &'a [u32],
@@ -192,7 +192,8 @@ pub fn find_meeting<'a>(
     meet(first, row_heads, &from_start, &from_target, t)
 }
 
-// The distance between two positions, whatever the cost lists hold.
+// The distance between two positions, whatever the cost lists hold: as above, but nobody asks where a label came from, and what is only
+// written here is left out by the compiler.
 pub fn ask<'a>(
     first: &[u32],
     row_heads: &[u32],
@@ -204,17 +205,29 @@ pub fn ask<'a>(
     requires { ⌜ Lists (graph (now first) (now «row_heads»)) (edgeCosts (now up) (now down)) × (s .0 < count (now first)) × (t .0 < count (now first)) ⌝ }
     ensures { λ r. ⌜ r ≡ listedDistance (count (now (first .entry))) (graph (now (first .entry)) (now («row_heads» .entry))) (edgeCosts (now (up .entry)) (now (down .entry))) (s .0) (t .0) ⌝ }
 {
-    let mut came_up = [0u16; 4096];
-    let mut came_down = [0u16; 4096];
-    let met = find_meeting(
+    let mut from_start = [NONE; 4096];
+    let mut from_target = [NONE; 4096];
+    let mut came = [0u16; 4096];
+    climb(
         first,
         row_heads,
         up,
         down,
+        Direction::Up,
         s,
-        t,
-        &mut came_up,
-        &mut came_down,
+        &mut from_start,
+        &mut came,
     );
+    climb(
+        first,
+        row_heads,
+        up,
+        down,
+        Direction::Down,
+        t,
+        &mut from_target,
+        &mut came,
+    );
+    let met = meet(first, row_heads, &from_start, &from_target, t);
     met.sum
 }
