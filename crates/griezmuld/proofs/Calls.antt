@@ -1,7 +1,7 @@
 -- What the calls leave, case by case: a refusal, or the work's outcome. Assumes nothing.
-use Prim.Native.Nat.{ℕ, suc, _-_}
+use Prim.Native.Nat.{ℕ, suc, _-_, _<_}
 use mathlib.Core.Path.{_≡_, refl, sym, ap, _∙_}
-use mathlib.Core.List.{List, [], _++_}
+use mathlib.Core.List.{List, [], _∷_, _++_}
 use native.Mathlib.Omega.{arith}
 use lib.Dec.{leb}
 use lib.ListN.{length, getD, replicate}
@@ -10,16 +10,21 @@ use Rattle.rules.specs.Costs.{none}
 use Rattle.rules.specs.Replies.{refused, edges, done, far, noWalk}
 use Rattle.rules.specs.Net.{Net, net, rankList}
 use Rattle.rules.specs.Graph.{Graph, firstList, headsList, edgeCount, graph}
-use Rattle.rules.specs.Refusals.{passes, fails, check6}
+use Rattle.rules.specs.Refusals.{passes, fails, check6, check15}
 use Rattle.lists.specs.Lent.{filled}
 use Rattle.lists.proofs.Filled.{filled-whole}
-use Rattle.rules.specs.Hierarchy.{EdgeCosts}
-use Rattle.rules.specs.Calls.{buildLeft, buildChecks, buildLeaves, customiseLeft, customiseChecks, customiseLeaves, distanceLeft, distanceChecks, listedDistance, distanceLeaves, routeLeft, routeChecks, routeLeaves, customisedCosts}
+use Rattle.rules.specs.Hierarchy.{EdgeCosts, along}
+use Rattle.rules.specs.declared.Direction.{Direction}
+use Rattle.rules.specs.Calls.{buildLeft, buildChecks, buildLeaves, customiseLeft, customiseChecks, customiseLeaves, distanceLeft, distanceChecks, listedDistance, distanceBetween, distanceLeaves, SweepLeaves, sweepLeft, sweepChecks, sweptLeaves, sweepLeaves, routeLeft, routeChecks, routeLeaves, customisedCosts}
 use Rattle.theory.proofs.Words.{either, split}
 use Rattle.theory.proofs.Orders.{inverse-list}
 use Rattle.theory.proofs.Rows.{rows}
-use Rattle.theory.specs.Accepted.{Buildable}
+use Rattle.theory.specs.Accepted.{Buildable, Asked}
 use Rattle.theory.proofs.Buildable.{buildable}
+use Rattle.theory.proofs.Accepted.{asked, passes15}
+use Rattle.theory.proofs.Verdicts.{first-passes}
+use Rattle.theory.specs.Rows.{count, Lists}
+use Rattle.sweep.specs.Swept.{Places}
 use Rattle.graph.specs.Contracted.{Left, left, contracted}
 use Rattle.graph.specs.declared.Room.{Room}
 use Rattle.graph.specs.declared.Room.the-variants.{Next, Full}
@@ -124,6 +129,43 @@ module _ (order rank : List ℕ) (G : Graph) (C : EdgeCosts) (from to : ℕ) whe
     unfolding distanceLeaves
     distance-told f =
         rw (c, ne-eqb (listedDistance (length order) G C (getD rank from 0) (getD rank to 0)) none (λ g. f (far-is ∙ g)), ← far-is) refl
+
+-- ---- sweep
+
+module _ (order rank : List ℕ) (G : Graph) (C : EdgeCosts) (j : ℕ) (distances : List ℕ) where
+  -- where a sweep's checks pass, distance's do, and the list is n long
+  sweep-passed : sweepChecks order rank G C j distances ≡ passes → Asked order rank G C j j × (length distances ≡ length order)
+  unfolding sweepChecks
+  sweep-passed c =
+      let (e, f) = first-passes (distanceChecks order rank G C j j) (check15 (length order) distances ∷ []) c in
+      (asked order rank G C j j e, passes15 (length order) distances (first-passes (check15 (length order) distances) [] f .0))
+
+  -- so there is what `sweep_by` asks
+  pub sweep-asked : sweepChecks order rank G C j distances ≡ passes
+      → Lists G C × Places rank distances × (length rank ≡ count (G .first)) × (j < length rank)
+  sweep-asked c =
+      let (A, long) = sweep-passed c in (
+        A .lists,
+        record {
+          few = omega (arith, A .lists .few, A .size, A .ranks .long);
+          as-many = long ∙ sym (A .ranks .long);
+          position = λ x h. omega (arith, A .ranks .long, A .ranks .position x (omega (arith, A .ranks .long)));
+        },
+        A .ranks .long ∙ sym (A .size),
+        omega (arith, A .start, A .ranks .long),
+      )
+
+  module _ (d : Direction) where
+    pub sweep-refused : (k p : ℕ) → sweepChecks order rank G C j distances ≡ fails k p
+        → sweepLeft distances (refused k p) ≡ sweepLeaves order rank G C d j distances
+    unfolding sweepLeaves
+    sweep-refused k p e = rw e refl
+
+    pub sweep-told : (left : SweepLeaves) → sweepChecks order rank G C j distances ≡ passes
+        → left ≡ sweptLeaves (count (G .first)) (along d (distanceBetween (count (G .first)) rank G C) j)
+        → left ≡ sweepLeaves order rank G C d j distances
+    unfolding sweepLeaves
+    sweep-told left c e = rw (c, ← sweep-passed c .0 .size) e
 
 -- ---- route
 

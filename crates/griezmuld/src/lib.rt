@@ -1,16 +1,18 @@
-// The four calls. Any lists may come in: each call checks what it gets, in the paper's order, and then does the work.
+// The public calls. Any lists may come in: each call checks what it gets, in the paper's order, and then does the work.
 // Each promise is one equation: what the call leaves, reply and every lent list, is the definition at what it got.
 
 ghost use mathlib.Core.Path.{_≡_};
 ghost use Rattle.rules.specs.Net.{net};
-ghost use Rattle.rules.specs.Replies.{buildReply, customiseReply, distanceReply, routeReply};
-ghost use Rattle.rules.specs.Calls.{buildLeft, buildLeaves, customiseLeft, customiseLeaves, distanceLeft, distanceLeaves, routeLeft, routeLeaves};
+ghost use Rattle.rules.specs.Replies.{buildReply, fillReply, distanceReply, routeReply};
+ghost use Rattle.rules.specs.Calls.{buildLeft, buildLeaves, customiseLeft, customiseLeaves, distanceLeft, distanceLeaves, sweepLeft, sweepLeaves, routeLeft, routeLeaves};
 ghost use Rattle.rules.specs.Graph.{graph};
 ghost use Rattle.rules.specs.Hierarchy.{edgeCosts};
+ghost use Rattle.rules.specs.declared.Direction.the-variants.{Up, Down};
 use checks::check_build;
 use checks::check_customise;
 use checks::check_distance;
 use checks::check_route;
+use checks::check_sweep;
 use customise::customise_costs;
 use distance::ask;
 use drive::route_between;
@@ -21,12 +23,14 @@ use lists::fill;
 use lists::fill_rank;
 use lists::position_of;
 use rules::BuildAnswer;
-use rules::CustomiseAnswer;
+use rules::Direction;
 use rules::DistanceAnswer;
+use rules::FillAnswer;
 use rules::Junction;
 use rules::NONE;
 use rules::Refusal;
 use rules::RouteAnswer;
+use sweep::sweep_by;
 
 // Roads and order to the shortcut graph: rank, first and row_heads are filled, and E is told.
 pub fn build(
@@ -61,8 +65,8 @@ pub fn customise(
     row_heads: &[u32],
     up: &mut [u32],
     down: &mut [u32],
-) -> CustomiseAnswer
-    ensures { λ r. ⌜ customiseLeft (edgeCosts (now (up .exit)) (now (down .exit))) (customiseReply r) ≡ customiseLeaves (net (now (tails .entry)) (now (heads .entry)) (now (costs .entry)) (now (order .entry))) (now (rank .entry)) (graph (now (first .entry)) (now («row_heads» .entry))) (edgeCosts (now (up .entry)) (now (down .entry))) ⌝ }
+) -> FillAnswer
+    ensures { λ r. ⌜ customiseLeft (edgeCosts (now (up .exit)) (now (down .exit))) (fillReply r) ≡ customiseLeaves (net (now (tails .entry)) (now (heads .entry)) (now (costs .entry)) (now (order .entry))) (now (rank .entry)) (graph (now (first .entry)) (now («row_heads» .entry))) (edgeCosts (now (up .entry)) (now (down .entry))) ⌝ }
 {
     if let Check::Fails(refusal) = check_customise(
         tails,
@@ -75,10 +79,10 @@ pub fn customise(
         up,
         down,
     ) {
-        return CustomiseAnswer::Refused(refusal);
+        return FillAnswer::Refused(refusal);
     }
     customise_costs(tails, heads, costs, order, rank, first, row_heads, up, down);
-    CustomiseAnswer::Done
+    FillAnswer::Done
 }
 
 // The distance between two junctions, by the lists as they are.
@@ -113,6 +117,87 @@ pub fn distance<'a>(
         return DistanceAnswer::NoWalk;
     }
     DistanceAnswer::Tenths(d)
+}
+
+// Both sweeps: the distances from a junction, or, for the other direction, to it, by the lists as they are.
+fn sweep<'a>(
+    order: &[u32],
+    rank: &[u32],
+    first: &[u32],
+    row_heads: &[u32],
+    up: &'a [u32],
+    down: &'a [u32],
+    d: Direction,
+    j: Junction,
+    distances: &mut [u32],
+) -> FillAnswer
+    ensures { λ r. ⌜ sweepLeft (now (distances .exit)) (fillReply r) ≡ sweepLeaves (now (order .entry)) (now (rank .entry)) (graph (now (first .entry)) (now («row_heads» .entry))) (edgeCosts (now (up .entry)) (now (down .entry))) d (j .0) (now (distances .entry)) ⌝ }
+{
+    if let Check::Fails(refusal) = check_sweep(
+        order,
+        rank,
+        first,
+        row_heads,
+        up,
+        down,
+        j,
+        distances,
+    ) {
+        return FillAnswer::Refused(refusal);
+    }
+    sweep_by(rank, first, row_heads, up, down, d, j, distances)
+}
+
+// The distance from one junction to every junction, written into the list: from the dairy to every farm.
+pub fn sweep_from<'a>(
+    order: &[u32],
+    rank: &[u32],
+    first: &[u32],
+    row_heads: &[u32],
+    up: &'a [u32],
+    down: &'a [u32],
+    from: Junction,
+    distances: &mut [u32],
+) -> FillAnswer
+    ensures { λ r. ⌜ sweepLeft (now (distances .exit)) (fillReply r) ≡ sweepLeaves (now (order .entry)) (now (rank .entry)) (graph (now (first .entry)) (now («row_heads» .entry))) (edgeCosts (now (up .entry)) (now (down .entry))) Up (from .0) (now (distances .entry)) ⌝ }
+{
+    sweep(
+        order,
+        rank,
+        first,
+        row_heads,
+        up,
+        down,
+        Direction::Up,
+        from,
+        distances,
+    )
+}
+
+// The distance from every junction to one, written into the list: from every farm to the dairy.
+pub fn sweep_to<'a>(
+    order: &[u32],
+    rank: &[u32],
+    first: &[u32],
+    row_heads: &[u32],
+    up: &'a [u32],
+    down: &'a [u32],
+    to: Junction,
+    distances: &mut [u32],
+) -> FillAnswer
+    ensures { λ r. ⌜ sweepLeft (now (distances .exit)) (fillReply r) ≡ sweepLeaves (now (order .entry)) (now (rank .entry)) (graph (now (first .entry)) (now («row_heads» .entry))) (edgeCosts (now (up .entry)) (now (down .entry))) Down (to .0) (now (distances .entry)) ⌝ }
+{
+    sweep(
+        order,
+        rank,
+        first,
+        row_heads,
+        up,
+        down,
+        Direction::Down,
+        to,
+        distances,
+    )
 }
 
 // The distance between two junctions, and the arcs of the route in driving order, written into the list.

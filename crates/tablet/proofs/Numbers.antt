@@ -4,7 +4,7 @@ use mathlib.Core.Path.{_≡_, sym, ap, _∙_}
 use mathlib.Core.List.{List}
 use Rattle.rules.specs.Graph.{Graph}
 use Rattle.rules.specs.Hierarchy.{EdgeCosts}
-use Rattle.tablet.specs.Numbers.{BuildNumbers, buildNumbers, CustomiseNumbers, customiseNumbers, DistanceNumbers, distanceNumbers, RouteNumbers, routeNumbers}
+use Rattle.tablet.specs.Numbers.{BuildNumbers, buildNumbers, CustomiseNumbers, customiseNumbers, DistanceNumbers, distanceNumbers, SweepNumbers, sweepNumbers, RouteNumbers, routeNumbers}
 
 pub build-once : {n n′ p p′ e e′ : ℕ} {rank rank′ : List ℕ} {G G′ : Graph} (told : BuildNumbers)
     → buildNumbers n p e rank G ≡ told → buildNumbers n′ p′ e′ rank′ G′ ≡ told
@@ -34,6 +34,15 @@ distance-once told a b =
       ap (λ (t : DistanceNumbers). t .number) c,
       ap (λ (t : DistanceNumbers). t .place) c,
       ap (λ (t : DistanceNumbers). t .distance) c,
+    )
+
+pub sweep-once : {n n′ p p′ : ℕ} {distances distances′ : List ℕ} (told : SweepNumbers)
+    → sweepNumbers n p distances ≡ told → sweepNumbers n′ p′ distances′ ≡ told → (n ≡ n′) × (p ≡ p′) × (distances ≡ distances′)
+sweep-once told a b =
+    let c = a ∙ sym b in (
+      ap (λ (t : SweepNumbers). t .number) c,
+      ap (λ (t : SweepNumbers). t .place) c,
+      ap (λ (t : SweepNumbers). t .distances) c,
     )
 
 pub route-once : {n n′ p p′ d d′ k k′ : ℕ} {route route′ : List ℕ} (told : RouteNumbers)

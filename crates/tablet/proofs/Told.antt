@@ -3,8 +3,8 @@ use Prim.Native.Nat.{ℕ}
 use mathlib.Core.Path.{_≡_, ap}
 use mathlib.Core.List.{List}
 use Rattle.rules.specs.Replies.{Reply, numberTold, placeTold, edgesTold, distanceTold, arcsTold}
-use Rattle.rules.specs.Calls.{BuildLeaves, buildLeft, CustomiseLeaves, customiseLeft, DistanceLeaves, distanceLeft, RouteLeaves, routeLeft}
-use Rattle.tablet.specs.Numbers.{buildNumbers, buildTold, customiseNumbers, customiseTold, distanceNumbers, distanceToldOf, routeNumbers, routeTold}
+use Rattle.rules.specs.Calls.{BuildLeaves, buildLeft, CustomiseLeaves, customiseLeft, DistanceLeaves, distanceLeft, SweepLeaves, sweepLeft, RouteLeaves, routeLeft}
+use Rattle.tablet.specs.Numbers.{buildNumbers, buildTold, customiseNumbers, customiseTold, distanceNumbers, distanceToldOf, sweepNumbers, sweepTold, routeNumbers, routeTold}
 use Rattle.rules.specs.Graph.{Graph}
 use Rattle.rules.specs.Hierarchy.{EdgeCosts}
 
@@ -19,6 +19,10 @@ told-customise r n p C l en ep el = rw (en, ep) (ap customiseTold el)
 pub told-distance : (r : Reply) (n p d : ℕ) (l : DistanceLeaves) → n ≡ numberTold r → p ≡ placeTold r → d ≡ distanceTold r
     → distanceLeft r ≡ l → distanceNumbers n p d ≡ distanceToldOf l
 told-distance r n p d l en ep ed el = rw (en, ep, ed) (ap distanceToldOf el)
+
+pub told-sweep : (r : Reply) (n p : ℕ) (distances : List ℕ) (l : SweepLeaves) → n ≡ numberTold r → p ≡ placeTold r
+    → sweepLeft distances r ≡ l → sweepNumbers n p distances ≡ sweepTold l
+told-sweep r n p distances l en ep el = rw (en, ep) (ap sweepTold el)
 
 pub told-route : (r : Reply) (n p d k : ℕ) (route : List ℕ) (l : RouteLeaves) → n ≡ numberTold r → p ≡ placeTold r → d ≡ distanceTold r → k ≡ arcsTold r
     → routeLeft route r ≡ l → routeNumbers n p d k route ≡ routeTold l

@@ -5,7 +5,7 @@ use mathlib.Core.List.{List}
 use Rattle.rules.specs.Graph.{Graph}
 use Rattle.rules.specs.Hierarchy.{EdgeCosts}
 use Rattle.rules.specs.Replies.{numberTold, placeTold, edgesTold, distanceTold, arcsTold}
-use Rattle.rules.specs.Calls.{BuildLeaves, CustomiseLeaves, DistanceLeaves, RouteLeaves}
+use Rattle.rules.specs.Calls.{BuildLeaves, CustomiseLeaves, DistanceLeaves, SweepLeaves, RouteLeaves}
 
 pub record BuildNumbers : Type 0 where
   pub number : ℕ
@@ -41,6 +41,17 @@ distanceNumbers n p d = record { number = n; place = p; distance = d }
 
 abbrev pub distanceToldOf : DistanceLeaves → DistanceNumbers
 distanceToldOf l = distanceNumbers (numberTold (l .reply)) (placeTold (l .reply)) (distanceTold (l .reply))
+
+pub record SweepNumbers : Type 0 where
+  pub number : ℕ
+  pub place : ℕ
+  pub distances : List ℕ
+
+abbrev pub sweepNumbers : (number place : ℕ) (distances : List ℕ) → SweepNumbers
+sweepNumbers n p distances = record { number = n; place = p; distances = distances }
+
+abbrev pub sweepTold : SweepLeaves → SweepNumbers
+sweepTold l = sweepNumbers (numberTold (l .reply)) (placeTold (l .reply)) (l .distances)
 
 pub record RouteNumbers : Type 0 where
   pub number : ℕ

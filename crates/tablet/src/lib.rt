@@ -2,14 +2,17 @@
 
 ghost use mathlib.Core.Path.{_≡_};
 ghost use Rattle.rules.specs.Net.{net};
-ghost use Rattle.rules.specs.Calls.{buildLeaves, customiseLeaves, distanceLeaves, routeLeaves};
+ghost use Rattle.rules.specs.Calls.{buildLeaves, customiseLeaves, distanceLeaves, sweepLeaves, routeLeaves};
 ghost use Rattle.rules.specs.Graph.{graph};
 ghost use Rattle.rules.specs.Hierarchy.{edgeCosts};
-ghost use Rattle.tablet.specs.Numbers.{buildNumbers, buildTold, customiseNumbers, customiseTold, distanceNumbers, distanceToldOf, routeNumbers, routeTold};
+ghost use Rattle.rules.specs.declared.Direction.the-variants.{Up, Down};
+ghost use Rattle.tablet.specs.Numbers.{buildNumbers, buildTold, customiseNumbers, customiseTold, distanceNumbers, distanceToldOf, sweepNumbers, sweepTold, routeNumbers, routeTold};
 use griezmuld::build;
 use griezmuld::customise;
 use griezmuld::distance;
 use griezmuld::route;
+use griezmuld::sweep_from;
+use griezmuld::sweep_to;
 use rules::Junction;
 
 // Roads and order to the shortcut graph.
@@ -82,6 +85,64 @@ pub extern "C" fn griezmuld_distance<'a>(
     *place = found.place() as u64;
     *distance_told = found.distance();
     found.number()
+}
+
+// The distance from one junction to every junction.
+#[no_mangle]
+pub extern "C" fn griezmuld_sweep_from<'a>(
+    order: &[u32],
+    rank: &[u32],
+    first: &[u32],
+    row_heads: &[u32],
+    up: &'a [u32],
+    down: &'a [u32],
+    from: u32,
+    distances: &mut [u32],
+    place: &mut u64,
+) -> u32
+    ensures { λ r. ⌜ sweepNumbers r (now (place .exit)) (now (distances .exit)) ≡ sweepTold (sweepLeaves (now (order .entry)) (now (rank .entry)) (graph (now (first .entry)) (now («row_heads» .entry))) (edgeCosts (now (up .entry)) (now (down .entry))) Up from (now (distances .entry))) ⌝ }
+{
+    let swept = sweep_from(
+        order,
+        rank,
+        first,
+        row_heads,
+        up,
+        down,
+        Junction(from),
+        distances,
+    );
+    *place = swept.place() as u64;
+    swept.number()
+}
+
+// The distance from every junction to one.
+#[no_mangle]
+pub extern "C" fn griezmuld_sweep_to<'a>(
+    order: &[u32],
+    rank: &[u32],
+    first: &[u32],
+    row_heads: &[u32],
+    up: &'a [u32],
+    down: &'a [u32],
+    to: u32,
+    distances: &mut [u32],
+    place: &mut u64,
+) -> u32
+    ensures { λ r. ⌜ sweepNumbers r (now (place .exit)) (now (distances .exit)) ≡ sweepTold (sweepLeaves (now (order .entry)) (now (rank .entry)) (graph (now (first .entry)) (now («row_heads» .entry))) (edgeCosts (now (up .entry)) (now (down .entry))) Down to (now (distances .entry))) ⌝ }
+{
+    let swept = sweep_to(
+        order,
+        rank,
+        first,
+        row_heads,
+        up,
+        down,
+        Junction(to),
+        distances,
+    );
+    *place = swept.place() as u64;
+    swept.number()
 }
 
 // The distance and the route between two junctions.

@@ -1,12 +1,12 @@
 -- `griezmuld_customise` meets its promise. Assumes nothing.
 use borrow.Author.Needs.{needs}
 use Rattle.tablet.proofs.Told.{told-customise}
-use Rattle.rules.specs.Replies.{customiseReply}
+use Rattle.rules.specs.Replies.{fillReply}
 use Rattle.tablet.proofs.griezmuld_customise.Statement.{statement}
 use Rattle.tablet.proofs.griezmuld_customise.Tie as tie
 
 returns : tie.Need-returns
-returns c = told-customise (customiseReply (c .before .before .before .before .before .before .customise .result)) _ _ _ _ (c .number .ensures) (c .before .place .ensures) (c .before .before .before .before .before .before .customise .ensures)
+returns c = told-customise (fillReply (c .before .before .before .before .before .before .customise .result)) _ _ _ _ (c .number .ensures) (c .before .place .ensures) (c .before .before .before .before .before .before .customise .ensures)
 
 pub griezmuld-customise-spec : {M : Type 1} → statement M
 griezmuld-customise-spec =
