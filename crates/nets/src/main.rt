@@ -8,8 +8,8 @@ use griezmuld::route;
 use libc::STDIN_FILENO;
 use libc::STDOUT_FILENO;
 use rules::BuildAnswer;
-use rules::CustomiseAnswer;
 use rules::DistanceAnswer;
+use rules::FillAnswer;
 use rules::Junction;
 use rules::RouteAnswer;
 use rules::wide;
@@ -99,7 +99,7 @@ fn tell_build(answer: BuildAnswer) {
 }
 
 // What customise tells, on a line.
-fn tell_customise(answer: CustomiseAnswer) {
+fn tell_customise(answer: FillAnswer) {
     tell(b"customise", answer.number() as u64);
     tell(b" at", answer.place() as u64);
     io::write_all(STDOUT_FILENO, b"\n");

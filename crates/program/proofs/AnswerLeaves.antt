@@ -7,9 +7,9 @@ use lib.ListN.{length, take, drop, length-take, length-append, take-append-drop}
 use Rattle.rules.specs.declared.Refusal.{Refusal}
 use Rattle.rules.specs.declared.BuildAnswer.{BuildAnswer}
 use Rattle.rules.specs.declared.BuildAnswer.the-variants as build
-use Rattle.rules.specs.declared.CustomiseAnswer.{CustomiseAnswer}
-use Rattle.rules.specs.declared.CustomiseAnswer.the-variants as customise
-use Rattle.rules.specs.Replies.{refused, edges, done, refusalNumber, refusalPlace, buildReply, customiseReply}
+use Rattle.rules.specs.declared.FillAnswer.{FillAnswer}
+use Rattle.rules.specs.declared.FillAnswer.the-variants as fill
+use Rattle.rules.specs.Replies.{refused, edges, done, refusalNumber, refusalPlace, buildReply, fillReply}
 use Rattle.rules.specs.Net.{Net, net}
 use Rattle.rules.specs.Refusals.{passes}
 use Rattle.rules.specs.Calls.{BuildLeaves, buildLeft, buildLeaves, CustomiseLeaves, customiseLeft, customiseChecks, customiseLeaves}
@@ -28,16 +28,16 @@ use Rattle.rules.specs.Hierarchy.{EdgeCosts, edgeCosts}
 -- ---- once the graph has been built
 
 module _ (N : Net) (b : BuildLeaves) (e : ℕ) (froms tos : List ℕ) (c : CustomiseLeaves) (before : List ℕ) where
-  pub customise-refused : (r : CustomiseAnswer) (q : Refusal) (C : EdgeCosts) (k : ℕ) (after : List ℕ) (next : ℕ) → customiseLeft C (customiseReply r) ≡ c
-      → r ≡ customise.Refused q → k ≡ refusalNumber q → Wrote before 0 (refusedLine k) after next
+  pub customise-refused : (r : FillAnswer) (q : Refusal) (C : EdgeCosts) (k : ℕ) (after : List ℕ) (next : ℕ) → customiseLeft C (fillReply r) ≡ c
+      → r ≡ fill.Refused q → k ≡ refusalNumber q → Wrote before 0 (refusedLine k) after next
       → Wrote before 0 (answerCustomised N b e froms tos c) after next
   unfolding answerCustomised
   customise-refused r q C k after next f g h w =
       let f′ : customiseLeft C (refused (refusalNumber q) (refusalPlace q)) ≡ c = rw g at f in
       subst (λ x. Wrote before 0 (answerCustomised N b e froms tos x) after next) f′ (rw h at w)
 
-  pub customise-done : (r : CustomiseAnswer) (C : EdgeCosts) (middle : List ℕ) (at : ℕ) (after : List ℕ) (next : ℕ) → customiseLeft C (customiseReply r) ≡ c
-      → r ≡ customise.Done → Wrote before 0 (edgesLine e) middle at
+  pub customise-done : (r : FillAnswer) (C : EdgeCosts) (middle : List ℕ) (at : ℕ) (after : List ℕ) (next : ℕ) → customiseLeft C (fillReply r) ≡ c
+      → r ≡ fill.Done → Wrote before 0 (edgesLine e) middle at
       → Wrote middle at (replyLines N (b .rank) (b .rows) C froms tos) after next
       → Wrote before 0 (answerCustomised N b e froms tos c) after next
   unfolding answerCustomised
@@ -47,8 +47,8 @@ module _ (N : Net) (b : BuildLeaves) (e : ℕ) (froms tos : List ℕ) (c : Custo
       (wrote-then before 0 (edgesLine e) middle at (replyLines N (b .rank) (b .rows) C froms tos) after next v w)
 
 -- customise accepts the lists that it left
-pub done-passes : (N : Net) (rank : List ℕ) (G : Graph) (C₀ : EdgeCosts) (r : CustomiseAnswer) (C : EdgeCosts)
-    → customiseLeft C (customiseReply r) ≡ customiseLeaves N rank G C₀ → r ≡ customise.Done
+pub done-passes : (N : Net) (rank : List ℕ) (G : Graph) (C₀ : EdgeCosts) (r : FillAnswer) (C : EdgeCosts)
+    → customiseLeft C (fillReply r) ≡ customiseLeaves N rank G C₀ → r ≡ fill.Done
     → customiseChecks N rank G C ≡ passes
 done-passes N rank G C₀ r C f g =
     let f′ : customiseLeft C done ≡ customiseLeaves N rank G C₀ = rw g at f in

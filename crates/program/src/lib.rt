@@ -23,7 +23,7 @@ use print::put_reply;
 use reader::Reading;
 use reader::read_text;
 use rules::BuildAnswer;
-use rules::CustomiseAnswer;
+use rules::FillAnswer;
 use rules::Junction;
 use rules::Refusal;
 use rules::RouteAnswer;
@@ -166,7 +166,7 @@ fn answer_built(
 {
     let mut up = [0u32; 4096];
     let mut down = [0u32; 4096];
-    if let CustomiseAnswer::Refused(refusal) = customise(
+    if let FillAnswer::Refused(refusal) = customise(
         tails,
         heads,
         costs,

@@ -1,13 +1,15 @@
-// Document 01's small examples, run: what each call tells and what then stands in the lent lists, to be compared with the paper.
+// Document 01's small examples and document 02's rules, run: what each call tells and what then stands in the lent lists, to be compared with the papers.
 
 use griezmuld::build;
 use griezmuld::customise;
 use griezmuld::distance;
 use griezmuld::route;
+use griezmuld::sweep_from;
+use griezmuld::sweep_to;
 use libc::STDOUT_FILENO;
 use rules::BuildAnswer;
-use rules::CustomiseAnswer;
 use rules::DistanceAnswer;
+use rules::FillAnswer;
 use rules::Junction;
 use rules::RouteAnswer;
 use show::show;
@@ -25,7 +27,7 @@ fn show_build(name: &[u8], answer: BuildAnswer, rank: &[u32], first: &[u32], hea
 }
 
 // One line for a customising: its name, the answer, the lists.
-fn show_customise(name: &[u8], answer: CustomiseAnswer, up: &[u32], down: &[u32]) {
+fn show_customise(name: &[u8], answer: FillAnswer, up: &[u32], down: &[u32]) {
     tell(name, answer.number() as u64);
     tell(b" at", answer.place() as u64);
     show(b", up", up);
@@ -261,6 +263,79 @@ fn n4_distances() {
     ask_n4(b"0 to 4:", 0, 4);
 }
 
+// One line for a sweep: its name, the answer, the list.
+fn show_sweep(name: &[u8], answer: FillAnswer, distances: &[u32]) {
+    tell(name, answer.number() as u64);
+    tell(b" at", answer.place() as u64);
+    show(b", distances", distances);
+    io::write_all(STDOUT_FILENO, b"\n");
+}
+
+// Sweeps N4 from a junction and to it, with a cost up from 2 to 3, by P2's other lists.
+fn sweep_n4(name: &[u8], up_2_3: u32, j: u32, there: &mut [u32], back: &mut [u32]) {
+    let order = [0u32, 1, 2, 3];
+    let first = [0u32, 2, 4, 5, 5];
+    let heads = [1u32, 2, 2, 3, 3];
+    let up = [4294967295u32, 4, 7, 20, up_2_3];
+    let down = [3u32, 4294967295, 4294967295, 6, 13];
+    let out = sweep_from(
+        &order,
+        &order,
+        &first,
+        &heads,
+        &up,
+        &down,
+        Junction(j),
+        there,
+    );
+    io::write_all(STDOUT_FILENO, name);
+    show_sweep(b", from:", out, there);
+    let home = sweep_to(
+        &order,
+        &order,
+        &first,
+        &heads,
+        &up,
+        &down,
+        Junction(j),
+        back,
+    );
+    io::write_all(STDOUT_FILENO, name);
+    show_sweep(b", to:", home, back);
+}
+
+// P3 to P7 in the lists of their starts and targets; then 11, and 15 for a list shorter or longer than n.
+fn n4_sweeps() {
+    let shut = 4294967295;
+    sweep_n4(b"dairy 0", 2, 0, &mut [9; 4], &mut [9; 4]);
+    sweep_n4(b"dairy 1", 2, 1, &mut [9; 4], &mut [9; 4]);
+    sweep_n4(b"arc 2 CLOSED, dairy 0", shut, 0, &mut [9; 4], &mut [9; 4]);
+    sweep_n4(b"arc 2 CLOSED, dairy 1", shut, 1, &mut [9; 4], &mut [9; 4]);
+    sweep_n4(b"dairy 4, lists 3 and 5", 2, 4, &mut [9; 3], &mut [9; 5]);
+    sweep_n4(b"lists 3 and 5", 2, 0, &mut [9; 3], &mut [9; 5]);
+}
+
+// Junctions 2, 0 and 1 in a row, in that order: 1 is too far from 2 once the second edge costs anything, and 16 names junction 1, at position 2.
+fn row_sweep(name: &[u8], second: u32, list: &mut [u32]) {
+    let order = [2u32, 0, 1];
+    let rank = [1u32, 2, 0];
+    let first = [0u32, 1, 2, 2];
+    let heads = [1u32, 2];
+    let up = [4294967294u32, second];
+    let down = [4294967295u32; 2];
+    let answer = sweep_from(&order, &rank, &first, &heads, &up, &down, Junction(2), list);
+    show_sweep(name, answer, list);
+}
+
+// "16 for the lowest junction whose distance isn't below CLOSED .. after 16 the list is all CLOSED", and 15 before it.
+fn far_sweeps() {
+    row_sweep(b"row, second edge 0:", 0, &mut [9; 3]);
+    row_sweep(b"row, second edge 1:", 1, &mut [9; 3]);
+    row_sweep(b"row, second edge 4294967294:", 4294967294, &mut [9; 3]);
+    row_sweep(b"row, second edge CLOSED:", 4294967295, &mut [9; 3]);
+    row_sweep(b"row, second edge 1, list 4:", 1, &mut [9; 4]);
+}
+
 // One line for a route: its name, the answer, the list.
 fn show_route(name: &[u8], answer: RouteAnswer, list: &[u32]) {
     tell(name, answer.number() as u64);
@@ -319,5 +394,7 @@ fn main() {
     costs();
     n4_costs(&mut [9; 6], &mut [9; 5]);
     n4_distances();
+    n4_sweeps();
+    far_sweeps();
     n4_routes();
 }
