@@ -1,9 +1,10 @@
 /*
  * Griezmuld: cheapest driving routes of milk tankers.
  *
- * Four calls. griezmuld_build makes a graph of shortcuts from the roads and an order of the junctions; it is called once
+ * Six calls. griezmuld_build makes a graph of shortcuts from the roads and an order of the junctions; it is called once
  * for an area. griezmuld_customise puts costs onto that graph; it is called whenever a cost changes. griezmuld_distance
- * and griezmuld_route then answer questions.
+ * and griezmuld_route then answer questions about two junctions; griezmuld_sweep_from and griezmuld_sweep_to list the
+ * distances from one junction to all, and from all to one.
  *
  * The net
  *   Junctions are numbered 0 to n - 1. There are 1 to 4,096 of them.
@@ -29,10 +30,11 @@
  *   A pointer must not be NULL, even where its length is 0; it is then not used.
  *
  * Stack
- *   What a call needs besides the lists it keeps on the stack. On the lists that ask most of it, measured on x86-64: build
- *   112 KiB, customise 48 KiB, distance 96 KiB, route 1,440 KiB. Of route's, some 160 KiB are always used; the rest is for
- *   shortcuts made of shortcuts, some 330 bytes for each inside another. They nest 4,000 deep only if the order is as bad as can
- *   be, but nothing forbids such an order: give the thread that calls route 2 MiB.
+ *   What a call needs besides the lists it keeps on the stack. On the lists that ask most of it, measured for x86-64 to
+ *   the next 16 KiB: build 128 KiB, customise 48 KiB, distance 80 KiB, either sweep 48 KiB, route 1,456 KiB. Of route's,
+ *   some 160 KiB are always used; the rest is for shortcuts made of shortcuts, some 330 bytes for each inside another. They
+ *   nest 4,000 deep only if the order is as bad as can be, but nothing forbids such an order: give the thread that calls
+ *   route 2 MiB.
  *
  * Replies
  *   Each call returns the number of a refusal, 0 when it has accepted. It always writes *place: the place of the fault,
@@ -57,8 +59,10 @@
  *   11  from or to is n or more
  *   12  an arc of the route has no place left
  *   13  a piece of the route fits neither an arc nor two lower pieces: up and down were not customised for these costs
+ *   15  distances isn't n long (14 is given by the program `route`, and by no call)
+ *   16  a distance is 4,294,967,295 or more; the place is the junction (never with up and down as customise left them)
  * After a refusal every list is as it was, except: after 6, rank, first and row_heads are all 0; after 12 or 13 every place
- * of the route list is 4,294,967,295.
+ * of the route list is 4,294,967,295; after 16 every place of distances is.
  *
  * How long the lists must be, for m arcs
  *   tails, heads, costs   m
@@ -68,6 +72,7 @@
  *                         with a good order some 3 to 15 times n. If row_heads was too short (6), lend a longer one.
  *   route                 at least the number of arcs of the route: n - 1 is enough where up and down were customised
  *                         for the costs at hand.
+ *   distances             n
  *
  * An example, for two junctions with a road each way:
  *
@@ -96,7 +101,10 @@
 extern "C" {
 #endif
 
-/* The cost of a closed arc, and of an edge that nobody can drive; what fills a route list where no arc stands. */
+/*
+ * The cost of a closed arc, and of an edge that nobody can drive; what fills a route list where no arc stands, and
+ * distances where no walk leads.
+ */
 #define GRIEZMULD_CLOSED UINT32_MAX
 
 /* The distance where no walk leads from one junction to the other. */
@@ -157,6 +165,38 @@ uint32_t griezmuld_distance(
     uint32_t to,
     uint64_t *place,
     uint64_t *distance);
+
+/*
+ * The distances from one junction to all: distances[j] becomes what griezmuld_distance tells of the pair (from, j), or
+ * GRIEZMULD_CLOSED where no walk leads there.
+ * Checks: 1, 4, 7, 10, 11, 15, 16.
+ */
+uint32_t griezmuld_sweep_from(
+    const uint32_t *order, size_t order_length,
+    const uint32_t *rank, size_t rank_length,
+    const uint32_t *first, size_t first_length,
+    const uint32_t *row_heads, size_t row_heads_length,
+    const uint32_t *up, size_t up_length,
+    const uint32_t *down, size_t down_length,
+    uint32_t from,
+    uint32_t *distances, size_t distances_length,
+    uint64_t *place);
+
+/*
+ * The distances from all junctions to one: distances[j] becomes what griezmuld_distance tells of the pair (j, to), or
+ * GRIEZMULD_CLOSED where no walk leads there.
+ * Checks: 1, 4, 7, 10, 11, 15, 16.
+ */
+uint32_t griezmuld_sweep_to(
+    const uint32_t *order, size_t order_length,
+    const uint32_t *rank, size_t rank_length,
+    const uint32_t *first, size_t first_length,
+    const uint32_t *row_heads, size_t row_heads_length,
+    const uint32_t *up, size_t up_length,
+    const uint32_t *down, size_t down_length,
+    uint32_t to,
+    uint32_t *distances, size_t distances_length,
+    uint64_t *place);
 
 /*
  * The route from one junction to another: *distance as above, *arcs the number of arcs, and the arcs' numbers in driving

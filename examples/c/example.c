@@ -1,6 +1,6 @@
 /*
- * N4, the worked example of document 01, through the four calls: builds the graph, customises it, asks for some
- * distances and routes, then closes an arc and asks again. See run, beside this file.
+ * N4, the worked example of document 01, through the six calls: builds the graph, customises it, asks for some
+ * distances and routes, prints a dairy's list of farms, then closes an arc and asks again. See run, beside this file.
  */
 #include "griezmuld.h"
 
@@ -18,6 +18,7 @@ static const uint32_t order[JUNCTIONS] = {0, 1, 2, 3};
 static uint32_t rank[JUNCTIONS], first[JUNCTIONS + 1], row_heads[EDGES];
 static uint32_t up[EDGES], down[EDGES];
 static uint32_t route[JUNCTIONS - 1];
+static uint32_t there[JUNCTIONS], back[JUNCTIONS];
 
 static void show(const char *name, const uint32_t *list, size_t length)
 {
@@ -73,6 +74,26 @@ static int ask(uint32_t from, uint32_t to)
     return drive != distance;
 }
 
+/* Prints the distance from a dairy to every farm, and from every farm to the dairy. */
+static int list_farms(uint32_t dairy)
+{
+    uint64_t place;
+    uint32_t number = griezmuld_sweep_from(
+        order, JUNCTIONS, rank, JUNCTIONS, first, JUNCTIONS + 1, row_heads, EDGES, up, EDGES, down, EDGES,
+        dairy, there, JUNCTIONS, &place);
+    if (refused("sweep_from", number, place))
+        return 1;
+    number = griezmuld_sweep_to(
+        order, JUNCTIONS, rank, JUNCTIONS, first, JUNCTIONS + 1, row_heads, EDGES, up, EDGES, down, EDGES,
+        dairy, back, JUNCTIONS, &place);
+    if (refused("sweep_to", number, place))
+        return 1;
+    printf("dairy %" PRIu32 "\n", dairy);
+    show("to each farm", there, JUNCTIONS);
+    show("and back", back, JUNCTIONS);
+    return 0;
+}
+
 int main(void)
 {
     uint64_t place, edges;
@@ -90,12 +111,12 @@ int main(void)
     printf("customise\n");
     show("up", up, (size_t)edges);
     show("down", down, (size_t)edges);
-    if (ask(1, 3) || ask(0, 1) || ask(2, 0) || ask(0, 0))
+    if (ask(1, 3) || ask(0, 1) || ask(2, 0) || ask(0, 0) || list_farms(0))
         return 1;
 
     printf("arc 2 closed\n");
     costs[2] = GRIEZMULD_CLOSED;
-    if (customise() || ask(0, 1) || ask(1, 3))
+    if (customise() || ask(0, 1) || ask(1, 3) || list_farms(0))
         return 1;
 
     printf("a cost that is too dear\n");

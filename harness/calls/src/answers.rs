@@ -31,6 +31,10 @@ pub enum Refusal {
     RouteRoom,
     /// 13: a piece has neither a fitting arc nor a fitting z.
     PieceFitsNothing,
+    /// 15: the distance list isn't n long.
+    DistanceRoom,
+    /// 16: the distance of this junction is CLOSED or more.
+    TooFar(u64),
     /// A number that include/griezmuld.h doesn't have.
     Unheard {
         /// The number told.
@@ -56,6 +60,8 @@ impl Refusal {
             11 => Refusal::StartOrTarget,
             12 => Refusal::RouteRoom,
             13 => Refusal::PieceFitsNothing,
+            15 => Refusal::DistanceRoom,
+            16 => Refusal::TooFar(place),
             _ => Refusal::Unheard { number, place },
         }
     }
@@ -70,10 +76,10 @@ pub enum Built {
     Refused(Refusal),
 }
 
-/// What customise answers.
+/// What a call answers that fills lists: customise, and the sweeps.
 #[derive(Clone, Copy, Debug, PartialEq, Eq)]
-pub enum Customised {
-    /// The costs stand.
+pub enum Filled {
+    /// The lists stand.
     Done,
     /// Why not.
     Refused(Refusal),
@@ -115,11 +121,11 @@ impl From<Told> for Built {
     }
 }
 
-impl From<Told> for Customised {
-    fn from(told: Told) -> Customised {
+impl From<Told> for Filled {
+    fn from(told: Told) -> Filled {
         match told.number {
-            0 => Customised::Done,
-            number => Customised::Refused(Refusal::new(number, told.place)),
+            0 => Filled::Done,
+            number => Filled::Refused(Refusal::new(number, told.place)),
         }
     }
 }

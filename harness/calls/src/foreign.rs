@@ -41,6 +41,30 @@ extern "C" {
         distance: *mut u64,
     ) -> u32;
 
+    pub fn griezmuld_sweep_from(
+        order: *const u32, order_length: usize,
+        rank: *const u32, rank_length: usize,
+        first: *const u32, first_length: usize,
+        row_heads: *const u32, row_heads_length: usize,
+        up: *const u32, up_length: usize,
+        down: *const u32, down_length: usize,
+        from: u32,
+        distances: *mut u32, distances_length: usize,
+        place: *mut u64,
+    ) -> u32;
+
+    pub fn griezmuld_sweep_to(
+        order: *const u32, order_length: usize,
+        rank: *const u32, rank_length: usize,
+        first: *const u32, first_length: usize,
+        row_heads: *const u32, row_heads_length: usize,
+        up: *const u32, up_length: usize,
+        down: *const u32, down_length: usize,
+        to: u32,
+        distances: *mut u32, distances_length: usize,
+        place: *mut u64,
+    ) -> u32;
+
     pub fn griezmuld_route(
         tails: *const u32, tails_length: usize,
         heads: *const u32, heads_length: usize,

@@ -1,7 +1,7 @@
-//! Safe wrappers over the library's four C functions: slices in, enums out.
+//! Safe wrappers over the library's C functions: slices in, enums out.
 //!
-//! The functions [`build`], [`customise`], [`distance`] and [`route`] answer enums. The module [`told`] has the same
-//! calls with the bare numbers, for the runs that compare every one of them.
+//! The functions [`build`], [`customise`], [`distance`], [`sweep`] and [`route`] answer enums; `sweep` is two of the C
+//! functions. The module [`told`] has the same calls with the bare numbers, for the runs that compare every one of them.
 
 mod answers;
 #[cfg(not(feature = "standin"))]
@@ -9,13 +9,13 @@ mod foreign;
 #[cfg(not(feature = "standin"))]
 pub mod told;
 
-pub use answers::{Built, Customised, Distance, Refusal, Route};
+pub use answers::{Built, Distance, Filled, Refusal, Route};
 #[cfg(feature = "standin")]
 pub use standin as told;
 
-use slices::{Arcs, CostRoom, Costs, Graph, GraphRoom, Roads};
+use slices::{Arcs, CostRoom, Costs, Graph, GraphRoom, Roads, Way};
 
-/// "CLOSED": the cost of a closed arc or edge, and what fills a route list.
+/// "CLOSED": the cost of a closed arc or edge; what fills a route list, and a distance list where no walk leads.
 pub const CLOSED: u32 = u32::MAX;
 
 /// What was linked, in words.
@@ -50,13 +50,18 @@ pub fn build(arcs: Arcs, order: &[u32], room: GraphRoom) -> Built {
 }
 
 /// Puts costs onto the graph.
-pub fn customise(roads: Roads, graph: Graph, room: CostRoom) -> Customised {
-    Customised::from(told::customise(roads, graph, room))
+pub fn customise(roads: Roads, graph: Graph, room: CostRoom) -> Filled {
+    Filled::from(told::customise(roads, graph, room))
 }
 
 /// The distance between two junctions.
 pub fn distance(graph: Graph, costs: Costs, from: u32, to: u32) -> Distance {
     Distance::from(told::distance(graph, costs, from, to))
+}
+
+/// The distances from a junction to every one, or from every one to it.
+pub fn sweep(way: Way, graph: Graph, costs: Costs, end: u32, distances: &mut [u32]) -> Filled {
+    Filled::from(told::sweep(way, graph, costs, end, distances))
 }
 
 /// The route between two junctions.

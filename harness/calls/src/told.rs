@@ -1,9 +1,9 @@
-//! The four calls with the bare numbers that they tell.
+//! The calls with the bare numbers that they tell.
 
 #![allow(unsafe_code)]
 
 use crate::foreign;
-use slices::{Arcs, CostRoom, Costs, Graph, GraphRoom, Roads, Told};
+use slices::{Arcs, CostRoom, Costs, Graph, GraphRoom, Roads, Told, Way};
 
 /// What stands in a number's place before a call that has to write it.
 const UNWRITTEN: u64 = 0x0123_4567_89ab_cdef;
@@ -102,6 +102,35 @@ pub fn distance(graph: Graph, costs: Costs, from: u32, to: u32) -> Told {
         number,
         place: place.read(),
         distance: distance.read(),
+        ..Told::default()
+    }
+}
+
+/// griezmuld_sweep_from or griezmuld_sweep_to
+pub fn sweep(way: Way, graph: Graph, costs: Costs, end: u32, distances: &mut [u32]) -> Told {
+    let mut place = Cell::new();
+    let call = match way {
+        Way::From => foreign::griezmuld_sweep_from,
+        Way::To => foreign::griezmuld_sweep_to,
+    };
+    // SAFETY: as in build
+    #[rustfmt::skip]
+    let number = unsafe {
+        call(
+            graph.order.as_ptr(), graph.order.len(),
+            graph.rank.as_ptr(), graph.rank.len(),
+            graph.first.as_ptr(), graph.first.len(),
+            graph.row_heads.as_ptr(), graph.row_heads.len(),
+            costs.up.as_ptr(), costs.up.len(),
+            costs.down.as_ptr(), costs.down.len(),
+            end,
+            distances.as_mut_ptr(), distances.len(),
+            place.pointer(),
+        )
+    };
+    Told {
+        number,
+        place: place.read(),
         ..Told::default()
     }
 }

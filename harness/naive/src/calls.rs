@@ -5,6 +5,7 @@ use crate::graph::Graph;
 use crate::labels::{labels, meeting, Held, Label, Meeting, Way};
 use crate::refusals::{self, refusal, Refusal};
 use crate::roads::Roads;
+use crate::sweeps::{swept, Sweep};
 use crate::unpacking::{met, pieces, Met};
 use crate::{CLOSED, NO_WALK};
 
@@ -46,7 +47,7 @@ pub struct Roadmap<'a> {
     pub order: &'a [u32],
 }
 
-/// What customise, distance and route get of the graph.
+/// What every call but build gets of the graph.
 #[derive(Clone, Copy)]
 pub struct Rows<'a> {
     /// The rank list.
@@ -57,7 +58,7 @@ pub struct Rows<'a> {
     pub row_heads: &'a [u32],
 }
 
-/// What customise, distance and route get of the costs on the graph.
+/// What every call but build gets of the costs on the graph.
 #[derive(Clone, Copy)]
 pub struct Costs<'a> {
     /// The up list.
@@ -159,7 +160,7 @@ pub struct CustomiseLeaves {
 }
 
 impl CustomiseLeaves {
-    /// The lists, as distance and route get them.
+    /// The lists, as the calls that ask get them.
     pub fn held(&self) -> Costs<'_> {
         Costs {
             up: &self.up,
@@ -225,8 +226,15 @@ fn customise_refusal(map: Roadmap, rows: Rows, held: Costs) -> Option<Refusal> {
 
 /// "Distance: 1, 4, 7, 10, 11."
 pub fn distance(order: &[u32], rows: Rows, costs: Costs, from: u32, to: u32) -> Told {
+    match distance_refusal(order, rows, costs, &[from, to]) {
+        Some(refused) => refused.into(),
+        None => Asked::of(order, rows, costs).distance(from, to),
+    }
+}
+
+fn distance_refusal(order: &[u32], rows: Rows, costs: Costs, ends: &[u32]) -> Option<Refusal> {
     let n = order.len();
-    let refused = refusal(1, refusals::junctions(n))
+    refusal(1, refusals::junctions(n))
         .or_else(|| refusal(4, refusals::order_entries(order)))
         .or_else(|| {
             let fault = refusals::hierarchy(order, rows.rank, rows.first, rows.row_heads);
@@ -236,10 +244,54 @@ pub fn distance(order: &[u32], rows: Rows, costs: Costs, from: u32, to: u32) -> 
             let fault = refusals::cost_lists(rows.first[n] as usize, costs.up, costs.down);
             refusal(10, fault)
         })
-        .or_else(|| refusal(11, refusals::start_or_target(n, from, to)));
+        .or_else(|| refusal(11, refusals::start_or_target(n, ends)))
+}
+
+// ---- sweeps
+
+/// What a sweep leaves.
+#[derive(Clone, Debug, PartialEq, Eq)]
+pub struct SweepLeaves {
+    /// The numbers told.
+    pub told: Told,
+    /// The distance list.
+    pub distances: Vec<u32>,
+}
+
+/// "Refusals: 1, 4, 7, 10, 11, then 15 if the distance list isn't n long, then 16".
+pub fn sweep(
+    order: &[u32],
+    rows: Rows,
+    costs: Costs,
+    sweep: Sweep,
+    distances: &[u32],
+) -> SweepLeaves {
+    let refused = distance_refusal(order, rows, costs, &[sweep.dairy()])
+        .or_else(|| refusal(15, refusals::distance_list(order.len(), distances)));
     match refused {
-        Some(refused) => refused.into(),
-        None => Asked::of(order, rows, costs).distance(from, to),
+        Some(refused) => SweepLeaves {
+            told: refused.into(),
+            distances: distances.to_vec(),
+        },
+        None => listed(&Asked::of(order, rows, costs).far(sweep)),
+    }
+}
+
+/// "The filled list of 32-bit numbers holds, for each junction, what the distance call says, CLOSED for none"; "16 for
+/// the lowest junction whose distance isn't below CLOSED"; "after 16 the list is all CLOSED".
+pub fn listed(far: &[Option<u64>]) -> SweepLeaves {
+    if let Some(refused) = refusal(16, refusals::too_far(far)) {
+        return SweepLeaves {
+            told: refused.into(),
+            distances: vec![CLOSED; far.len()],
+        };
+    }
+    SweepLeaves {
+        told: Told::default(),
+        distances: far
+            .iter()
+            .map(|far| far.map_or(CLOSED, |far| far as u32))
+            .collect(),
     }
 }
 
@@ -264,7 +316,7 @@ pub fn route(
     route: &[u32],
 ) -> RouteLeaves {
     let refused = customise_refusal(map, rows, costs).or_else(|| {
-        let fault = refusals::start_or_target(map.order.len(), from, to);
+        let fault = refusals::start_or_target(map.order.len(), &[from, to]);
         refusal(11, fault)
     });
     if let Some(refused) = refused {
@@ -278,6 +330,9 @@ pub fn route(
     let drive = asked.drive(&roads, from, to, route.len());
     drive.into_room(route.len())
 }
+
+/// Up to so many junctions a sweep's distances are taken pair by pair.
+pub const MOST_DEFINED: usize = 60;
 
 /// Lists that have passed every check, ready for many questions. Labels are worked out once for each end.
 pub struct Asked<'a> {
@@ -310,6 +365,36 @@ impl<'a> Asked<'a> {
         Told {
             distance: self.meet(from, to).map_or(NO_WALK, |meeting| meeting.sum),
             ..Told::default()
+        }
+    }
+
+    /// The distance of every junction, by definition: "what the distance call says".
+    pub fn by_distances(&mut self, sweep: Sweep) -> Vec<Option<u64>> {
+        let junctions = 0..self.order.len() as u32;
+        junctions
+            .map(|farm| {
+                let (from, to) = sweep.pair(farm);
+                self.meet(from, to).map(|meeting| meeting.sum)
+            })
+            .collect()
+    }
+
+    /// The same by the sweep: the list holds junctions where the sweep has positions.
+    pub fn by_sweep(&self, sweep: Sweep) -> Vec<Option<u64>> {
+        let way = match sweep {
+            Sweep::From(_) => Way::Up,
+            Sweep::To(_) => Way::Down,
+        };
+        let far = swept(&self.held, self.position(sweep.dairy()), way);
+        let junctions = 0..self.order.len() as u32;
+        junctions.map(|farm| far[self.position(farm)]).collect()
+    }
+
+    /// The same by definition where that doesn't take too long, else by the sweep.
+    pub fn far(&mut self, sweep: Sweep) -> Vec<Option<u64>> {
+        match self.order.len() {
+            0..=MOST_DEFINED => self.by_distances(sweep),
+            _ => self.by_sweep(sweep),
         }
     }
 
@@ -408,42 +493,75 @@ impl Drive {
 mod tests {
     use super::*;
 
-    const TAILS: [u32; 5] = [1, 0, 2, 3, 1];
-    const HEADS: [u32; 5] = [0, 2, 3, 1, 3];
-    const COSTS: [u32; 5] = [3, 4, 2, 6, 20];
-    const ORDER: [u32; 4] = [0, 1, 2, 3];
+    const N4: Roadmap = Roadmap {
+        tails: &[1, 0, 2, 3, 1],
+        heads: &[0, 2, 3, 1, 3],
+        costs: &[3, 4, 2, 6, 20],
+        order: &[0, 1, 2, 3],
+    };
 
-    #[test]
-    fn n4_is_as_the_paper_says() {
+    /// N4's graph and costs, in rooms with a place to spare.
+    fn worked() -> (BuildLeaves, CustomiseLeaves) {
         let room = Rows {
             rank: &[7; 4],
             first: &[7; 5],
             row_heads: &[7; 6],
         };
-        let built = build(&TAILS, &HEADS, &ORDER, room);
-        assert_eq!(built.told.edges, 5);
-        assert_eq!(built.first, [0, 2, 4, 5, 5]);
-        assert_eq!(built.row_heads, [1, 2, 2, 3, 3, 0]);
-        let map = Roadmap {
-            tails: &TAILS,
-            heads: &HEADS,
-            costs: &COSTS,
-            order: &ORDER,
-        };
-        let rows = built.rows();
+        let built = build(N4.tails, N4.heads, N4.order, room);
         let room = Costs {
             up: &[7; 5],
             down: &[7; 6],
         };
-        let left = customise(map, rows, room);
+        let left = customise(N4, built.rows(), room);
+        (built, left)
+    }
+
+    #[test]
+    fn n4_is_as_the_paper_says() {
+        let (built, left) = worked();
+        assert_eq!(built.told.edges, 5);
+        assert_eq!(built.first, [0, 2, 4, 5, 5]);
+        assert_eq!(built.row_heads, [1, 2, 2, 3, 3, 0]);
         assert_eq!(left.up, [CLOSED, 4, 7, 20, 2]);
         assert_eq!(left.down, [3, CLOSED, CLOSED, 6, 13, CLOSED]);
-        let costs = left.held();
-        assert_eq!(distance(&ORDER, rows, costs, 0, 1).distance, 12);
-        let drive = route(map, rows, costs, 1, 3, &[7; 4]);
+        let (rows, costs) = (built.rows(), left.held());
+        assert_eq!(distance(N4.order, rows, costs, 0, 1).distance, 12);
+        let drive = route(N4, rows, costs, 1, 3, &[7; 4]);
         assert_eq!((drive.told.distance, drive.told.arcs), (9, 3));
         assert_eq!(drive.route, [0, 1, 2, CLOSED]);
-        let short = route(map, rows, costs, 1, 3, &[7; 2]);
+        let short = route(N4, rows, costs, 1, 3, &[7; 2]);
         assert_eq!((short.told.number, short.route), (12, vec![CLOSED; 2]));
+    }
+
+    #[test]
+    fn the_sweep_finds_what_the_distance_call_says() {
+        let (built, left) = worked();
+        let mut asked = Asked::of(N4.order, built.rows(), left.held());
+        for dairy in 0..4 {
+            for sweep in [Sweep::From(dairy), Sweep::To(dairy)] {
+                assert_eq!(asked.by_sweep(sweep), asked.by_distances(sweep));
+            }
+        }
+        let swept = |asked, room: &[u32]| sweep(N4.order, built.rows(), left.held(), asked, room);
+        let from_0 = swept(Sweep::From(0), &[7; 4]);
+        assert_eq!(from_0.told, Told::default());
+        assert_eq!(from_0.distances, [0, 12, 4, 6]);
+        let long = swept(Sweep::To(3), &[7; 5]);
+        assert_eq!((long.told.number, long.distances), (15, vec![7; 5]));
+        let nobody = swept(Sweep::To(4), &[7; 5]);
+        assert_eq!((nobody.told.number, nobody.distances), (11, vec![7; 5]));
+    }
+
+    #[test]
+    fn only_a_distance_of_closed_or_more_is_too_far() {
+        let closed = u64::from(CLOSED);
+        let nearest = listed(&[Some(0), None, Some(closed - 1)]);
+        assert_eq!(nearest.told, Told::default());
+        assert_eq!(nearest.distances, [0, CLOSED, CLOSED - 1]);
+        for far in [closed, closed + 1, 1 << 40] {
+            let refused = listed(&[None, Some(7), Some(far), Some(closed)]);
+            assert_eq!((refused.told.number, refused.told.place), (16, 2));
+            assert_eq!(refused.distances, [CLOSED; 4]);
+        }
     }
 }

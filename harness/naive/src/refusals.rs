@@ -92,7 +92,18 @@ pub fn cost_lists(edges: usize, up: &[u32], down: &[u32]) -> Option<usize> {
     at_0(up.len() < edges || down.len() < edges)
 }
 
-/// 11: "start or target is n or more"
-pub fn start_or_target(n: usize, from: u32, to: u32) -> Option<usize> {
-    at_0(from as usize >= n || to as usize >= n)
+/// 11: "start or target is n or more"; a sweep has one of them only
+pub fn start_or_target(n: usize, ends: &[u32]) -> Option<usize> {
+    at_0(ends.iter().any(|&end| end as usize >= n))
+}
+
+/// 15: "the distance list isn't n long"
+pub fn distance_list(n: usize, distances: &[u32]) -> Option<usize> {
+    at_0(distances.len() != n)
+}
+
+/// 16: "the lowest junction whose distance isn't below CLOSED"; none is no distance
+pub fn too_far(far: &[Option<u64>]) -> Option<usize> {
+    far.iter()
+        .position(|far| far.is_some_and(|far| far >= u64::from(CLOSED)))
 }

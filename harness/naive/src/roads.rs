@@ -40,6 +40,14 @@ impl Roads {
         self.between.get(&(tail, head)).copied()
     }
 
+    /// The same arcs, each driven the other way.
+    pub fn turned(&self) -> Roads {
+        let turned = self.all().map(|(tail, head, road)| ((head, tail), road));
+        Roads {
+            between: turned.collect(),
+        }
+    }
+
     /// All arcs in force, as tail, head and road.
     pub fn all(&self) -> impl Iterator<Item = (u32, u32, Road)> + '_ {
         self.between.iter().map(|(&(u, v), &road)| (u, v, road))

@@ -60,13 +60,10 @@ impl Dijkstra {
         (found != NO_WALK).then_some(found)
     }
 
-    /// The distances from one junction to all.
-    pub fn distances(&mut self, net: &Leaving, from: u32) -> Vec<Option<u64>> {
+    /// The distances from one junction to all, with the number for "none".
+    pub fn distances(&mut self, net: &Leaving, from: u32) -> &[u64] {
         self.search(net, from, None);
-        self.distance
-            .iter()
-            .map(|&found| (found != NO_WALK).then_some(found))
-            .collect()
+        &self.distance
     }
 
     fn search(&mut self, net: &Leaving, from: u32, to: Option<u32>) {
@@ -135,13 +132,16 @@ mod tests {
         assert_eq!(far[4 + 3], Some(9));
         assert_eq!(far[1], Some(12));
         assert_eq!(far[2 * 4], Some(11));
-        let net = Leaving::of(4, &Roads::of(&tails, &heads, &costs));
+        let roads = Roads::of(&tails, &heads, &costs);
+        let [net, turned] = [&roads, &roads.turned()].map(|roads| Leaving::of(4, roads));
         let mut dijkstra = Dijkstra::new(4);
-        for from in 0..4 {
-            let row = dijkstra.distances(&net, from);
-            assert_eq!(row, far[from as usize * 4..][..4]);
-            for to in 0..4 {
-                assert_eq!(dijkstra.distance(&net, from, to), row[to as usize]);
+        for a in 0..4 {
+            for b in 0..4 {
+                let there = far[a as usize * 4 + b as usize];
+                assert_eq!(dijkstra.distance(&net, a, b), there);
+                let there = there.unwrap_or(NO_WALK);
+                assert_eq!(dijkstra.distances(&net, a)[b as usize], there);
+                assert_eq!(dijkstra.distances(&turned, b)[a as usize], there);
             }
         }
     }

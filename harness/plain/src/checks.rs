@@ -87,3 +87,11 @@ pub fn question(n: usize, from: u32, to: u32) -> Result<(), Refusal> {
     }
     Ok(())
 }
+
+/// 15
+pub fn distance_list(n: usize, distances: &[u32]) -> Result<(), Refusal> {
+    if distances.len() != n {
+        return Err(Refusal::DistanceRoom);
+    }
+    Ok(())
+}

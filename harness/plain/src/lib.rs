@@ -1,7 +1,7 @@
-//! The four calls in plain safe Rust, with all checks and without a heap: what the library is measured against.
+//! The calls in plain safe Rust, with all checks and without a heap: what the library is measured against.
 //!
 //! It uses the same methods as the library (rows of the parent tree, chains of indices in stack arrays, labels along
-//! the chain of parents) and is held to the same rules by the same runs.
+//! the chain of parents, then down over all positions) and is held to the same rules by the same runs.
 //!
 //! The calls here take structs of slices. Behind each stands a module whose function takes the slices one by one: if it
 //! took the structs, its count of instructions would change by one to three hundredths.
@@ -15,11 +15,12 @@ mod distance;
 mod hierarchy;
 mod refusal;
 mod route;
+mod sweep;
 
 pub use refusal::Refusal;
 pub use route::Drive;
 
-use slices::{Arcs, CostRoom, Costs, Graph, GraphRoom, Roads};
+use slices::{Arcs, CostRoom, Costs, Graph, GraphRoom, Roads, Way};
 
 /// The most junctions of a net.
 pub const MOST_JUNCTIONS: usize = 4_096;
@@ -27,7 +28,7 @@ pub const MOST_JUNCTIONS: usize = 4_096;
 /// The most arcs of a net.
 pub const MOST_ARCS: usize = 16_384;
 
-/// The cost of a closed arc or edge, and what fills a route list.
+/// The cost of a closed arc or edge; what fills a route list, and a distance list where no walk leads.
 pub const CLOSED: u32 = u32::MAX;
 
 /// The greatest cost of an arc.
@@ -73,6 +74,30 @@ pub fn distance(graph: Graph, costs: Costs, from: u32, to: u32) -> Result<Option
         costs.down,
         from,
         to,
+    )
+}
+
+/// Writes the distances from a junction to every one, or from every one to it.
+pub fn sweep(
+    way: Way,
+    graph: Graph,
+    costs: Costs,
+    end: u32,
+    distances: &mut [u32],
+) -> Result<(), Refusal> {
+    let (climb, descent) = match way {
+        Way::From => (costs.up, costs.down),
+        Way::To => (costs.down, costs.up),
+    };
+    sweep::sweep(
+        graph.order,
+        graph.rank,
+        graph.first,
+        graph.row_heads,
+        climb,
+        descent,
+        end,
+        distances,
     )
 }
 

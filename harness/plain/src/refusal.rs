@@ -29,6 +29,10 @@ pub enum Refusal {
     RouteRoom,
     /// 13
     PieceFitsNothing,
+    /// 15
+    DistanceRoom,
+    /// 16
+    TooFar(usize),
 }
 
 impl Refusal {
@@ -48,6 +52,8 @@ impl Refusal {
             Refusal::StartOrTarget => 11,
             Refusal::RouteRoom => 12,
             Refusal::PieceFitsNothing => 13,
+            Refusal::DistanceRoom => 15,
+            Refusal::TooFar(_) => 16,
         }
     }
 
@@ -57,7 +63,8 @@ impl Refusal {
             Refusal::ArcEnd(place)
             | Refusal::OrderEntry(place)
             | Refusal::ArcWithoutEdge(place)
-            | Refusal::ArcCost(place) => place,
+            | Refusal::ArcCost(place)
+            | Refusal::TooFar(place) => place,
             _ => 0,
         }
     }

@@ -1,12 +1,16 @@
 //! The greatest sizes, and what lies just past them.
 
+mod sweeps;
+
 use crate::judge::{compare_all, judge};
-use crate::lists::{compare, stale, Call, Lists, Outcome};
+use crate::lists::{compare, stale, Call, Lists, Outcome, CALLS};
 use crate::subject::SUBJECTS;
 use crate::tally::Tally;
 use crate::{Told, CLOSED};
 use cases::{Case, Damage};
 use nets::{order, Net};
+use slices::Way;
+use std::cmp::Ordering;
 
 /// The most junctions of a net.
 const MOST: usize = 4_096;
@@ -14,7 +18,7 @@ const MOST: usize = 4_096;
 type Run = fn(&mut Tally) -> Result<(), String>;
 
 /// All of them, by name.
-pub const ALL: [(&str, Run); 7] = [
+pub const ALL: [(&str, Run); 9] = [
     ("too many junctions or arcs", past_the_limits),
     ("16,384 arcs", most_arcs),
     ("the dearest path", dearest_path),
@@ -22,6 +26,8 @@ pub const ALL: [(&str, Run); 7] = [
     ("faults in the last places", last_faults),
     ("all junctions joined", all_joined),
     ("a route of a thousand million arcs", endless_route),
+    ("distances round CLOSED", sweeps::distances_round_closed),
+    ("the sweeps' checks by turns", sweeps::checks_by_turns),
 ];
 
 fn net_of(n: usize, arcs: impl Iterator<Item = (u32, u32, u32)>) -> Net {
@@ -53,10 +59,11 @@ fn past_the_limits(tally: &mut Tally) -> Result<(), String> {
             up: stale(3),
             down: stale(3),
             route: stale(3),
+            distances: stale(n),
             from: 0,
             to: 0,
         };
-        for call in [Call::Build, Call::Customise, Call::Distance, Call::Route] {
+        for call in CALLS {
             compare_all(call, &lists, tally)?;
         }
     }
@@ -101,7 +108,7 @@ fn deepest_shortcut(tally: &mut Tally) -> Result<(), String> {
     ends_of_path(&Case::on(&net, order), tally)
 }
 
-/// Distance and route from junction 0 to the last, through the calls one after the other.
+/// From junction 0 to the last, through the calls one after the other.
 fn ends_of_path(case: &Case, tally: &mut Tally) -> Result<(), String> {
     let edges = case.graph().edges();
     let mut lists = Lists {
@@ -115,41 +122,49 @@ fn ends_of_path(case: &Case, tally: &mut Tally) -> Result<(), String> {
         up: stale(edges),
         down: stale(edges),
         route: stale(MOST - 1),
+        distances: stale(MOST),
         from: 0,
         to: MOST as u32 - 1,
     };
-    for call in [Call::Build, Call::Customise, Call::Distance, Call::Route] {
+    for call in CALLS {
         lists = compare_all(call, &lists, tally)?.left;
     }
     lists.route = stale(MOST - 2);
     compare_all(Call::Route, &lists, tally)?;
     let told = compare_all(Call::Distance, &lists, tally)?.told;
-    match told.distance {
-        2_047_500_000 => Ok(()),
-        other => Err(format!("the naive programs say {other}")),
+    // the last call lists the distances to the last junction
+    match (told.distance, lists.distances[0]) {
+        (2_047_500_000, 2_047_500_000) => Ok(()),
+        other => Err(format!("the naive programs say {other:?}")),
     }
 }
 
-/// Good lists of the greatest size with one fault, as far back as it can stand.
-fn last_faults(tally: &mut Tally) -> Result<(), String> {
+/// A path of the most junctions, as build would leave it; every edge costs 1 either way.
+fn longest_path() -> Lists {
     let last = MOST as u32 - 1;
-    let net = net_of(MOST, (0..last).map(|at| (at, at + 1, 500_000)));
-    let good = Lists {
+    Lists {
+        tails: (0..last).collect(),
+        heads: (1..=last).collect(),
+        costs: vec![500_000; MOST - 1],
+        order: order::by_number(MOST),
         rank: order::by_number(MOST),
         first: (0..last).chain([last, last]).collect(),
         row_heads: (1..=last).collect(),
         up: vec![1; MOST - 1],
         down: vec![1; MOST - 1],
         route: stale(3),
-        order: order::by_number(MOST),
-        tails: net.tails,
-        heads: net.heads,
-        costs: net.costs,
+        distances: stale(MOST),
         from: 0,
         to: 0,
-    };
+    }
+}
+
+/// Good lists of the greatest size with one fault, as far back as it can stand.
+fn last_faults(tally: &mut Tally) -> Result<(), String> {
+    let good = longest_path();
     type Spoil = fn(&mut Lists);
-    let faults: [(Call, u32, Spoil); 15] = [
+    let [sweep_from, sweep_to] = [Way::From, Way::To].map(Call::Sweep);
+    let faults: [(Call, u32, Spoil); 21] = [
         (Call::Build, 3, |lists| lists.heads[MOST - 2] = MOST as u32),
         (Call::Build, 4, |lists| lists.order[MOST - 1] = 0),
         (Call::Build, 4, |lists| lists.order[MOST - 1] = MOST as u32),
@@ -165,6 +180,12 @@ fn last_faults(tally: &mut Tally) -> Result<(), String> {
         (Call::Distance, 7, |lists| lists.row_heads[MOST - 2] += 1),
         (Call::Distance, 11, |lists| lists.to = MOST as u32),
         (Call::Route, 11, |lists| lists.from = CLOSED),
+        (sweep_from, 11, |lists| lists.from = MOST as u32),
+        (sweep_to, 11, |lists| lists.to = MOST as u32),
+        (sweep_from, 15, |lists| lists.distances.truncate(MOST - 1)),
+        (sweep_to, 15, |lists| lists.distances.push(0)),
+        (sweep_from, 16, |lists| lists.up[MOST - 2] = CLOSED - 1),
+        (sweep_to, 16, |lists| lists.down[MOST - 2] = CLOSED - 1),
     ];
     for (call, number, spoil) in faults {
         let mut lists = good.clone();
@@ -242,7 +263,30 @@ fn all_joined(tally: &mut Tally) -> Result<(), String> {
     hold(Call::Distance, &lists, &answer, tally)?;
     answer.told.arcs = 1;
     answer.left.route = vec![3_999, CLOSED];
-    hold(Call::Route, &lists, &answer, tally)
+    hold(Call::Route, &lists, &answer, tally)?;
+    all_joined_swept(lists, tally)
+}
+
+/// The sweeps over the same graph: each position leads to every higher one, at 1, and to no lower one.
+fn all_joined_swept(mut lists: Lists, tally: &mut Tally) -> Result<(), String> {
+    lists.distances = stale(MOST);
+    lists.from = 4_000;
+    let upward = |lower: u32, higher: u32| match lower.cmp(&higher) {
+        Ordering::Less => 1,
+        Ordering::Equal => 0,
+        Ordering::Greater => CLOSED,
+    };
+    for way in [Way::From, Way::To] {
+        let junctions = 0..MOST as u32;
+        let mut left = lists.clone();
+        left.distances = match way {
+            Way::From => junctions.map(|farm| upward(4_000, farm)).collect(),
+            Way::To => junctions.map(|farm| upward(farm, 4_000)).collect(),
+        };
+        let told = Told::default();
+        hold(Call::Sweep(way), &lists, &Outcome { told, left }, tally)?;
+    }
+    Ok(())
 }
 
 fn hold(call: Call, lists: &Lists, outcome: &Outcome, tally: &mut Tally) -> Result<(), String> {

@@ -1,8 +1,8 @@
-//! The examples of document 01, through the wrappers.
+//! The examples of document 01, through the wrappers; and what request a of document 02 makes of them.
 
 use crate::CLOSED;
-use calls::{build, customise, distance, route, Built, Customised, Distance, Refusal, Route};
-use slices::{Arcs, CostRoom, Costs, Graph, GraphRoom, Roads};
+use calls::{build, customise, distance, route, sweep, Built, Distance, Filled, Refusal, Route};
+use slices::{Arcs, CostRoom, Costs, Graph, GraphRoom, Roads, Way};
 use std::mem::take;
 
 /// A net with its graph and costs, as the calls left them.
@@ -67,7 +67,7 @@ impl Worked {
         Costs { up, down }
     }
 
-    fn customise(&mut self) -> Customised {
+    fn customise(&mut self) -> Filled {
         let (mut up, mut down) = (take(&mut self.up), take(&mut self.down));
         let room = CostRoom {
             up: &mut up,
@@ -80,6 +80,12 @@ impl Worked {
 
     fn distance(&self, from: u32, to: u32) -> Distance {
         distance(self.graph(), self.held(), from, to)
+    }
+
+    fn sweep(&self, way: Way, end: u32, room: usize) -> (Filled, Vec<u32>) {
+        let mut list = vec![77; room];
+        let answer = sweep(way, self.graph(), self.held(), end, &mut list);
+        (answer, list)
     }
 
     fn route(&self, from: u32, to: u32, room: usize) -> (Route, Vec<u32>) {
@@ -98,6 +104,8 @@ pub fn run() -> (usize, Vec<String>) {
     build_and_costs(&mut says);
     distances_and_routes(&mut says);
     refusals(&mut says);
+    sweeps(&mut says);
+    sweep_refusals(&mut says);
     let failed = results.iter().filter(|(_, holds)| !holds);
     let failed = failed.map(|(name, _)| name.to_string()).collect();
     (results.len(), failed)
@@ -109,7 +117,7 @@ fn build_and_costs(says: &mut impl FnMut(&'static str, bool)) {
     says("P1 rank", n4.rank == [0, 1, 2, 3]);
     says("P1 first", n4.first == [0, 2, 4, 5, 5]);
     says("P1 heads", n4.row_heads == [1, 2, 2, 3, 3, 0]);
-    says("P2 done", n4.customise() == Customised::Done);
+    says("P2 done", n4.customise() == Filled::Done);
     says("P2 up", n4.up == [CLOSED, 4, 7, 20, 2, CLOSED]);
     says("P2 down", n4.down == [3, CLOSED, CLOSED, 6, 13, CLOSED]);
 
@@ -201,13 +209,13 @@ fn refusals(says: &mut impl FnMut(&'static str, bool)) {
 
     let (mut n4, _) = Worked::new(&N4, &[0, 1, 2, 3], 5);
     for (name, cost, answer) in [
-        ("cost 500,000", 500_000, Customised::Done),
+        ("cost 500,000", 500_000, Filled::Done),
         (
             "cost 500,001",
             500_001,
-            Customised::Refused(Refusal::ArcCost(1)),
+            Filled::Refused(Refusal::ArcCost(1)),
         ),
-        ("cost 0", 0, Customised::Refused(Refusal::ArcCost(1))),
+        ("cost 0", 0, Filled::Refused(Refusal::ArcCost(1))),
     ] {
         n4.costs[1] = cost;
         says(name, n4.customise() == answer);
@@ -230,5 +238,90 @@ fn refusals(says: &mut impl FnMut(&'static str, bool)) {
     says(
         "arc 2 at 3, room 1",
         n4.route(1, 3, 1) == (full, vec![CLOSED; 1]),
+    );
+}
+
+/// Whether every place of every sweep's list is what the distance call says.
+fn lists_distances(worked: &Worked) -> bool {
+    let n = worked.order.len();
+    (0..n as u32).all(|dairy| {
+        let [(from, to_all), (to, from_all)] =
+            [Way::From, Way::To].map(|way| worked.sweep(way, dairy, n));
+        let far = |from, to| match worked.distance(from, to) {
+            Distance::Tenths(tenths) => Some(tenths),
+            Distance::NoWalk => Some(u64::from(CLOSED)),
+            Distance::Refused(_) => None,
+        };
+        from == Filled::Done
+            && to == Filled::Done
+            && (0..n as u32)
+                .zip(to_all)
+                .all(|(farm, tenths)| far(dairy, farm) == Some(tenths.into()))
+            && (0..n as u32)
+                .zip(from_all)
+                .all(|(farm, tenths)| far(farm, dairy) == Some(tenths.into()))
+    })
+}
+
+fn sweeps(says: &mut impl FnMut(&'static str, bool)) {
+    let (mut n4, _) = Worked::new(&N4, &[0, 1, 2, 3], 5);
+    n4.customise();
+    let from_0 = (Filled::Done, vec![0, 12, 4, 6]);
+    says("N4 from 0", n4.sweep(Way::From, 0, 4) == from_0);
+    says("P3 from 1", n4.sweep(Way::From, 1, 4).1[3] == 9);
+    says("P3 to 3", n4.sweep(Way::To, 3, 4).1[1] == 9);
+    says("P4 to 1", n4.sweep(Way::To, 1, 4).1[0] == 12);
+    says("P5 from 2", n4.sweep(Way::From, 2, 4).1[0] == 11);
+    says("P5 to 0", n4.sweep(Way::To, 0, 4).1[2] == 11);
+    says("N4: sweeps list distances", lists_distances(&n4));
+
+    n4.costs[2] = CLOSED;
+    n4.customise();
+    says("P7 from 0", n4.sweep(Way::From, 0, 4).1[1] == CLOSED);
+    says("P7 to 1", n4.sweep(Way::To, 1, 4).1[0] == CLOSED);
+    says("P7 to 3", n4.sweep(Way::To, 3, 4).1[1] == 20);
+    says("P7: sweeps list distances", lists_distances(&n4));
+
+    let (mut n4, _) = Worked::new(&N4, &[3, 2, 1, 0], 5);
+    n4.customise();
+    says("P9 from 0", n4.sweep(Way::From, 0, 4) == from_0);
+    says("P9: sweeps list distances", lists_distances(&n4));
+    let (mut lone, _) = Worked::new(&[], &[0], 0);
+    lone.customise();
+    let itself = (Filled::Done, vec![0]);
+    says("n = 1 from 0", lone.sweep(Way::From, 0, 1) == itself);
+    says("n = 1 to 0", lone.sweep(Way::To, 0, 1) == itself);
+}
+
+fn sweep_refusals(says: &mut impl FnMut(&'static str, bool)) {
+    let (mut n4, _) = Worked::new(&N4, &[3, 2, 1, 0], 5);
+    n4.customise();
+    let refused = |refusal, list| (Filled::Refused(refusal), list);
+    for room in [0, 3, 5] {
+        let left = refused(Refusal::DistanceRoom, vec![77; room]);
+        says(
+            "a list that isn't n long",
+            n4.sweep(Way::From, 0, room) == left,
+        );
+        says(
+            "the mirror's list isn't n long",
+            n4.sweep(Way::To, 0, room) == left,
+        );
+    }
+    let nobody = refused(Refusal::StartOrTarget, vec![77; 5]);
+    says("a sweep from n", n4.sweep(Way::From, 4, 5) == nobody);
+    says("a sweep to n", n4.sweep(Way::To, 4, 5) == nobody);
+
+    // 1 to 0, the only way to 0, made dear; 0 to 2 costs 4, 2 to 3 costs 2, 3 to 1 costs 6, 1 to 3 costs 20
+    n4.up[4] = CLOSED - 5;
+    let near = (Filled::Done, vec![CLOSED - 5, 0, CLOSED - 1, 20]);
+    let all_closed = |junction| refused(Refusal::TooFar(junction), vec![CLOSED; 4]);
+    says("near enough from 1", n4.sweep(Way::From, 1, 4) == near);
+    says("too far from 3", n4.sweep(Way::From, 3, 4) == all_closed(0));
+    says("too far to 0", n4.sweep(Way::To, 0, 4) == all_closed(2));
+    n4.up[4] = CLOSED - 4;
+    says(
+        "just too far from 1",
+        n4.sweep(Way::From, 1, 4) == all_closed(2),
     );
 }

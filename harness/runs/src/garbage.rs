@@ -1,7 +1,7 @@
 //! Garbage lists of every kind and length, and lists with a fault or two.
 
 use crate::judge::compare_all;
-use crate::lists::{expected, stale, Call, Lists};
+use crate::lists::{expected, stale, Call, Lists, CALLS, DISTANCES, LISTS, ROUTE};
 use crate::tally::Tally;
 use crate::CLOSED;
 use nets::source::Source;
@@ -52,6 +52,7 @@ pub fn good_lists(source: &mut Source) -> Lists {
     lists.down = stale(edges + case.spare[2]);
     let mut lists = expected(Call::Customise, &lists).left;
     lists.route = stale(source.below(case.n + 3));
+    lists.distances = stale(case.n);
     lists.from = source.below(case.n) as u32;
     lists.to = source.below(case.n) as u32;
     lists
@@ -59,7 +60,7 @@ pub fn good_lists(source: &mut Source) -> Lists {
 
 /// Spoils good lists for one call.
 pub fn spoilt(good: &Lists, source: &mut Source) -> Handed {
-    let call = source.pick(&[Call::Build, Call::Customise, Call::Distance, Call::Route]);
+    let call = source.pick(&CALLS);
     let mut lists = good.clone();
     lists.from = source.below(good.order.len()) as u32;
     lists.to = source.below(good.order.len()) as u32;
@@ -87,12 +88,12 @@ fn nonsense(lists: &mut Lists, source: &mut Source) {
     let arcs = source.below(most + 1);
     let junctions = source.between(1, most);
     let small = source.between(1, 5);
-    for at in 0..10 {
+    for at in 0..LISTS {
         let mut length = source.below(most + 1);
         if sizes_agree {
             length = match at {
                 0..=2 => arcs,
-                3 | 4 => junctions,
+                3 | 4 | DISTANCES => junctions,
                 5 => junctions + 1,
                 _ => length,
             };
@@ -141,7 +142,7 @@ fn spoil(lists: &mut Lists, source: &mut Source) {
             lists.costs[arc] = source.pick(&[0, 0, 500_001, 600_000, CLOSED - 1, CLOSED, 500_000]);
         }
         4 => {
-            let at = source.below(10);
+            let at = source.below(LISTS);
             let length = lists.all()[at].len();
             let length = source.pick(&[0, length / 2, length.saturating_sub(1), length + 1]);
             lists.all_mut()[at].resize(length, 0);
@@ -154,8 +155,9 @@ fn spoil(lists: &mut Lists, source: &mut Source) {
                 list.swap(a, b);
             }
         }
+        // what stands in the route list or in the distance list is never read
         _ => {
-            let at = source.below(9);
+            let at = source.below(ROUTE);
             let word = any_word(lists, source);
             let list = &mut lists.all_mut()[at];
             if list.is_empty() {

@@ -1,8 +1,9 @@
 //! Judges a case: every call on it, by both implementations, against the naive programs; and those against Dijkstra and
 //! Floyd-Warshall.
 
-use crate::lists::{compare, expected, shown, stale, Call, Lent, Lists, Outcome};
+use crate::lists::{compare, expected, shown, stale, Call, Lent, Lists, Outcome, ROUTE};
 use crate::subject::{Subject, SUBJECTS};
+use crate::sweeps;
 use crate::tally::Tally;
 use crate::Told;
 use cases::Case;
@@ -13,7 +14,7 @@ use naive::walks::{floyd_warshall, Dijkstra, Leaving};
 use nets::source::Source;
 
 /// Up to so many junctions every pair is asked for.
-const EVERY_PAIR: usize = 60;
+pub const EVERY_PAIR: usize = 60;
 
 /// Runs everything that a case asks for. An error says what went wrong.
 pub fn judge(case: &Case) -> Result<Tally, String> {
@@ -21,31 +22,42 @@ pub fn judge(case: &Case) -> Result<Tally, String> {
         nets: 1,
         ..Tally::default()
     };
-    let mut source = Source::new(case.seed);
     let mut lists = build(case, &mut tally)?;
     lists.tails = case.tails.clone();
     lists.heads = case.heads.clone();
     lists.costs = case.costs.clone();
     customise(case, &mut lists, &mut tally)?;
+    question(case, &mut lists, &mut tally)?;
+    if case.later != case.costs && case.n <= EVERY_PAIR {
+        // roads shut and roads open again, over lists that hold the costs of before
+        compare_all(Call::Customise, &lists, &mut tally)?;
+    }
+    Ok(tally)
+}
 
-    let mut truth = Truth::of(&lists);
+/// All questions: on costs as customised, on later arc costs, on damaged shortcut costs. Leaves the later costs.
+fn question(case: &Case, lists: &mut Lists, tally: &mut Tally) -> Result<(), String> {
+    let mut source = Source::new(case.seed);
     let pairs = pairs(case.n, 40, &mut source);
+    let dairies = dairies(case.n, &pairs);
+    let mut truth = Truth::of(lists);
     let mut questions = Questions {
         stage: "costs as customised",
         spare: case.spare[3],
         source: &mut source,
-        tally: &mut tally,
+        tally,
     };
     if case.n <= EVERY_PAIR {
         let every: Vec<(u32, u32)> = every_pair(case.n).collect();
-        questions.ask(&lists, &every, Some(&mut truth))?;
+        questions.ask(lists, &every, Some(&mut truth))?;
     } else {
-        questions.ask(&lists, &pairs, Some(&mut truth))?;
+        questions.ask(lists, &pairs, Some(&mut truth))?;
     }
+    questions.sweep(lists, &dairies, Some(&lists.roads()))?;
     if case.later != case.costs {
         questions.stage = "arc costs changed, nothing redone";
         lists.costs = case.later.clone();
-        questions.ask(&lists, &pairs, None)?;
+        questions.ask(lists, &pairs, None)?;
     }
     if !case.damage.is_empty() {
         questions.stage = "shortcut costs damaged";
@@ -53,12 +65,9 @@ pub fn judge(case: &Case) -> Result<Tally, String> {
         damaged.costs = case.costs.clone();
         inflict(case, &mut damaged);
         questions.ask(&damaged, &pairs, None)?;
+        questions.sweep(&damaged, &dairies, None)?;
     }
-    if case.later != case.costs && case.n <= EVERY_PAIR {
-        // roads shut and roads open again, over lists that hold the costs of before
-        compare_all(Call::Customise, &lists, &mut tally)?;
-    }
-    Ok(tally)
+    Ok(())
 }
 
 fn every_pair(n: usize) -> impl Iterator<Item = (u32, u32)> {
@@ -75,6 +84,14 @@ fn pairs(n: usize, most: usize, source: &mut Source) -> Vec<(u32, u32)> {
     (0..count)
         .map(|_| (source.below(n) as u32, source.below(n) as u32))
         .collect()
+}
+
+/// Every junction of a small net, few of a larger one.
+fn dairies(n: usize, pairs: &[(u32, u32)]) -> Vec<u32> {
+    if n <= EVERY_PAIR {
+        return (0..n as u32).collect();
+    }
+    pairs.iter().take(3).map(|&(from, _)| from).collect()
 }
 
 /// Build, in rooms of several lengths. Hands on the lists with the room that the case asks for.
@@ -168,7 +185,7 @@ impl Truth {
             let far = floyd_warshall(n, &lists.tails, &lists.heads, &lists.costs);
             return Truth::Every(n, far);
         }
-        let roads = Roads::of(&lists.tails, &lists.heads, &lists.costs);
+        let roads = lists.roads();
         Truth::Asked(Leaving::of(n, &roads), Dijkstra::new(n))
     }
 
@@ -196,7 +213,7 @@ impl Questions<'_> {
         pairs: &[(u32, u32)],
         mut truth: Option<&mut Truth>,
     ) -> Result<(), String> {
-        let roads = Roads::of(&lists.tails, &lists.heads, &lists.costs);
+        let roads = lists.roads();
         let mut asked = Asked::of(&lists.order, lists.rows(), lists.held());
         let mut lent = SUBJECTS.map(|_| Lent::new(lists));
         let most = lists.order.len() + 40;
@@ -219,6 +236,17 @@ impl Questions<'_> {
             }
         }
         Ok(())
+    }
+
+    /// Asks for both sweeps of each dairy. With costs as customised, the roads are told.
+    fn sweep(
+        &mut self,
+        lists: &Lists,
+        dairies: &[u32],
+        roads: Option<&Roads>,
+    ) -> Result<(), String> {
+        sweeps::hold(lists, dairies, roads, self.tally)
+            .map_err(|error| format!("{}: {error}", self.stage))
     }
 
     /// Rooms for a route: enough, just enough, too short.
@@ -260,21 +288,21 @@ impl Questions<'_> {
             ));
         }
         for &room in rooms {
-            lent.set_route(&stale(room));
+            lent.replace(ROUTE, &stale(room));
             let told = lent.call(subject, Call::Route, from, to);
             let expected = drive.into_room(room);
             self.tally.call(expected.told);
-            if told != expected.told || lent.route() != expected.route {
+            if told != expected.told || lent.list(ROUTE) != expected.route {
                 return Err(format!(
                     "{name}: route {from} to {to} in a room of {room}, {}:\n  told     {told:?}, route {}\n  expected {:?}, \
                      route {}",
                     self.stage,
-                    shown(lent.route()),
+                    shown(lent.list(ROUTE)),
                     expected.told,
                     shown(&expected.route)
                 ));
             }
-            if !lent.route_holds() {
+            if !lent.holds(ROUTE) {
                 return Err(format!("{name}: route wrote outside its route list"));
             }
         }

@@ -10,6 +10,7 @@ pub mod measure;
 pub mod ready;
 pub mod shrink;
 pub mod subject;
+pub mod sweeps;
 pub mod tally;
 
 pub use naive::calls::Told;

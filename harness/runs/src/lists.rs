@@ -4,9 +4,12 @@ use crate::guarded::Guarded;
 use crate::subject::{run, Subject};
 use crate::Told;
 use naive::calls::{self, Costs, Roadmap, Rows};
+use naive::roads::Roads;
+use naive::sweeps::Sweep;
+use slices::Way;
 use std::fmt;
 
-/// The four calls.
+/// The six calls.
 #[derive(Clone, Copy, Debug, PartialEq, Eq)]
 pub enum Call {
     /// Build.
@@ -17,6 +20,32 @@ pub enum Call {
     Distance,
     /// Route.
     Route,
+    /// One of the two sweeps.
+    Sweep(Way),
+}
+
+/// All of them. Each may be run on what those before it leave.
+pub const CALLS: [Call; 6] = [
+    Call::Build,
+    Call::Customise,
+    Call::Distance,
+    Call::Route,
+    Call::Sweep(Way::From),
+    Call::Sweep(Way::To),
+];
+
+impl Call {
+    /// Its name in tables.
+    pub fn name(self) -> &'static str {
+        match self {
+            Call::Build => "build",
+            Call::Customise => "customise",
+            Call::Distance => "distance",
+            Call::Route => "route",
+            Call::Sweep(Way::From) => "sweep_from",
+            Call::Sweep(Way::To) => "sweep_to",
+        }
+    }
 }
 
 /// Every list and number that some call gets.
@@ -42,14 +71,25 @@ pub struct Lists {
     pub down: Vec<u32>,
     /// The route list.
     pub route: Vec<u32>,
+    /// The distance list.
+    pub distances: Vec<u32>,
     /// The start.
     pub from: u32,
     /// The target.
     pub to: u32,
 }
 
+/// How many lists there are.
+pub const LISTS: usize = 11;
+
+/// Where the route list stands among them.
+pub const ROUTE: usize = 9;
+
+/// Where the distance list stands among them.
+pub const DISTANCES: usize = 10;
+
 /// The lists' names, in the sequence of [`Lists::all`].
-pub const NAMES: [&str; 10] = [
+pub const NAMES: [&str; LISTS] = [
     "tails",
     "heads",
     "costs",
@@ -60,11 +100,12 @@ pub const NAMES: [&str; 10] = [
     "up",
     "down",
     "route",
+    "distances",
 ];
 
 impl Lists {
     /// All lists.
-    pub fn all(&self) -> [&Vec<u32>; 10] {
+    pub fn all(&self) -> [&Vec<u32>; LISTS] {
         [
             &self.tails,
             &self.heads,
@@ -76,11 +117,12 @@ impl Lists {
             &self.up,
             &self.down,
             &self.route,
+            &self.distances,
         ]
     }
 
     /// All lists, to be written.
-    pub fn all_mut(&mut self) -> [&mut Vec<u32>; 10] {
+    pub fn all_mut(&mut self) -> [&mut Vec<u32>; LISTS] {
         [
             &mut self.tails,
             &mut self.heads,
@@ -92,12 +134,13 @@ impl Lists {
             &mut self.up,
             &mut self.down,
             &mut self.route,
+            &mut self.distances,
         ]
     }
 
     /// All lists as slices, as a call gets them.
     #[inline]
-    pub fn slices(&mut self) -> [&mut [u32]; 10] {
+    pub fn slices(&mut self) -> [&mut [u32]; LISTS] {
         self.all_mut().map(Vec::as_mut_slice)
     }
 
@@ -125,6 +168,19 @@ impl Lists {
         Costs {
             up: &self.up,
             down: &self.down,
+        }
+    }
+
+    /// The open roads, for the naive programs.
+    pub fn roads(&self) -> Roads {
+        Roads::of(&self.tails, &self.heads, &self.costs)
+    }
+
+    /// A sweep's question, for the naive programs.
+    pub fn sweep(&self, way: Way) -> Sweep {
+        match way {
+            Way::From => Sweep::From(self.from),
+            Way::To => Sweep::To(self.to),
         }
     }
 }
@@ -175,34 +231,31 @@ pub struct Outcome {
 /// What a call has to tell and to leave, by the naive programs.
 pub fn expected(call: Call, lists: &Lists) -> Outcome {
     let mut left = lists.clone();
+    let (order, rows, held) = (&lists.order, lists.rows(), lists.held());
     let told = match call {
         Call::Build => {
-            let leaves = calls::build(&lists.tails, &lists.heads, &lists.order, lists.rows());
+            let leaves = calls::build(&lists.tails, &lists.heads, order, rows);
             left.rank = leaves.rank;
             left.first = leaves.first;
             left.row_heads = leaves.row_heads;
             leaves.told
         }
         Call::Customise => {
-            let leaves = calls::customise(lists.map(), lists.rows(), lists.held());
+            let leaves = calls::customise(lists.map(), rows, held);
             left.up = leaves.up;
             left.down = leaves.down;
             leaves.told
         }
-        Call::Distance => {
-            let (order, from, to) = (&lists.order, lists.from, lists.to);
-            calls::distance(order, lists.rows(), lists.held(), from, to)
-        }
+        Call::Distance => calls::distance(order, rows, held, lists.from, lists.to),
         Call::Route => {
-            let leaves = calls::route(
-                lists.map(),
-                lists.rows(),
-                lists.held(),
-                lists.from,
-                lists.to,
-                &lists.route,
-            );
+            let (map, from, to) = (lists.map(), lists.from, lists.to);
+            let leaves = calls::route(map, rows, held, from, to, &lists.route);
             left.route = leaves.route;
+            leaves.told
+        }
+        Call::Sweep(way) => {
+            let leaves = calls::sweep(order, rows, held, lists.sweep(way), &lists.distances);
+            left.distances = leaves.distances;
             leaves.told
         }
     };
@@ -211,7 +264,7 @@ pub fn expected(call: Call, lists: &Lists) -> Outcome {
 
 /// Lists as a call gets them: guarded.
 pub struct Lent {
-    lists: [Guarded; 10],
+    lists: [Guarded; LISTS],
 }
 
 impl Lent {
@@ -222,9 +275,9 @@ impl Lent {
         }
     }
 
-    /// A new route list.
-    pub fn set_route(&mut self, route: &[u32]) {
-        self.lists[9] = Guarded::new(route);
+    /// Puts another list in the place of one.
+    pub fn replace(&mut self, at: usize, list: &[u32]) {
+        self.lists[at] = Guarded::new(list);
     }
 
     /// Runs a call.
@@ -233,14 +286,14 @@ impl Lent {
         run(subject, call, lists, (from, to))
     }
 
-    /// The route list.
-    pub fn route(&self) -> &[u32] {
-        self.lists[9].list()
+    /// What a list now holds.
+    pub fn list(&self, at: usize) -> &[u32] {
+        self.lists[at].list()
     }
 
-    /// Whether the route list's guards hold.
-    pub fn route_holds(&mut self) -> bool {
-        self.lists[9].holds()
+    /// Whether a list's guards hold.
+    pub fn holds(&mut self, at: usize) -> bool {
+        self.lists[at].holds()
     }
 
     /// The first list that a call has touched though it had no leave to, if any: outside it, or one lent for reading.
@@ -249,7 +302,8 @@ impl Lent {
             Call::Build => &[4, 5, 6],
             Call::Customise => &[7, 8],
             Call::Distance => &[],
-            Call::Route => &[9],
+            Call::Route => &[ROUTE],
+            Call::Sweep(_) => &[DISTANCES],
         };
         for (at, list) in self.lists.iter_mut().enumerate() {
             if !list.holds() {
@@ -268,7 +322,8 @@ impl Lent {
     /// What the lists now hold.
     pub fn into_lists(self, from: u32, to: u32) -> Lists {
         let lists = self.lists.map(|list| list.list().to_vec());
-        let [tails, heads, costs, order, rank, first, row_heads, up, down, route] = lists;
+        let [tails, heads, costs, order, rank, first, row_heads, up, down, route, distances] =
+            lists;
         Lists {
             tails,
             heads,
@@ -280,6 +335,7 @@ impl Lent {
             up,
             down,
             route,
+            distances,
             from,
             to,
         }

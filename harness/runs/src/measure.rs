@@ -1,6 +1,5 @@
 //! Times by the clock, and instructions by callgrind.
 
-use crate::lists::Call;
 use crate::ready::{Job, Ready, JOBS};
 use std::fs;
 use std::hint::black_box;
@@ -50,18 +49,11 @@ fn time_of(ready: &mut Ready, job: Job, calls: usize) -> Duration {
     start.elapsed()
 }
 
-/// Runs every job once through all of its pairs, each inside [`griezmuld_measured`]. Callgrind counts those.
-pub fn run_for_callgrind(ready: &mut Ready) {
-    for at in 0..JOBS.len() {
-        griezmuld_measured(ready, at);
-    }
-}
-
-/// What callgrind counts. The name is there to be found.
+/// Runs a job once through all of its pairs: what callgrind counts. The name is there to be found.
 #[allow(unsafe_code)]
 #[no_mangle]
 #[inline(never)]
-extern "C" fn griezmuld_measured(ready: &mut Ready, job: usize) {
+pub extern "C" fn griezmuld_measured(ready: &mut Ready, job: usize) {
     let job = JOBS[job];
     for turn in 0..Ready::calls(job.0) {
         black_box(ready.run(job, turn));
@@ -83,34 +75,38 @@ pub fn instructions(net: &str, folder: &Path) -> Result<Option<PerJob<f64>>, Str
     if installed.is_err() {
         return Ok(None);
     }
-    let program = std::env::current_exe().map_err(|error| error.to_string())?;
     let room = Scratch::new()?;
+    let mut counts = JOBS.map(|_| 0.0);
+    for (at, (call, _)) in JOBS.into_iter().enumerate() {
+        count(net, folder, at, &room)?;
+        counts[at] = total(&room.file("counts.1"))? as f64 / Ready::calls(call) as f64;
+    }
+    Ok(Some(counts))
+}
+
+/// Has callgrind count one job. Each has a run of its own: on some processors callgrind takes the calls of a function
+/// one after the other for calls inside each other, and tells them together.
+fn count(net: &str, folder: &Path, job: usize, room: &Scratch) -> Result<(), String> {
+    let program = std::env::current_exe().map_err(|error| error.to_string())?;
+    let counts = room.file("counts");
     let status = Command::new("valgrind")
         .env("GLIBC_TUNABLES", NO_REPEATS)
         .arg("--tool=callgrind")
-        .arg(format!(
-            "--callgrind-out-file={}",
-            room.file("counts").display()
-        ))
+        .arg(format!("--callgrind-out-file={}", counts.display()))
         .arg("--toggle-collect=griezmuld_measured")
         .arg("--dump-after=griezmuld_measured")
         .arg(program)
         .arg("--nets")
         .arg(folder)
-        .args(["--under-callgrind", net])
+        .args(["--under-callgrind", net, &job.to_string()])
         .stdout(Stdio::null())
         .stderr(Stdio::null())
         .status()
         .map_err(|error| error.to_string())?;
-    if !status.success() {
-        return Err(format!("the run under callgrind ended with {status}"));
+    match status.success() {
+        true => Ok(()),
+        false => Err(format!("the run under callgrind ended with {status}")),
     }
-    let mut counts = JOBS.map(|_| 0.0);
-    for (at, (call, _)) in JOBS.into_iter().enumerate() {
-        let total = total(&room.file(&format!("counts.{}", at + 1)))?;
-        counts[at] = total as f64 / Ready::calls(call) as f64;
-    }
-    Ok(Some(counts))
 }
 
 /// The total that a file of callgrind's tells.
@@ -148,14 +144,4 @@ impl Drop for Scratch {
 pub fn at(job: Job) -> usize {
     let found = JOBS.iter().position(|&other| other == job);
     found.expect("a job that is measured")
-}
-
-/// The calls' names.
-pub fn name(call: Call) -> &'static str {
-    match call {
-        Call::Build => "build",
-        Call::Customise => "customise",
-        Call::Distance => "distance",
-        Call::Route => "route",
-    }
 }

@@ -1,6 +1,6 @@
 //! Steps that make a failing case or failing lists smaller.
 
-use crate::lists::Lists;
+use crate::lists::{Lists, LISTS};
 use crate::CLOSED;
 use cases::shrink::cuts;
 use cases::Case;
@@ -91,7 +91,7 @@ fn drop_junction(case: &mut Case, junction: u32) {
 /// Lists that are a step smaller.
 pub fn smaller_lists(lists: &Lists) -> Vec<Lists> {
     let mut smaller = Vec::new();
-    for at in 0..10 {
+    for at in 0..LISTS {
         for (start, end) in cuts(lists.all()[at].len()) {
             let mut candidate = lists.clone();
             candidate.all_mut()[at].drain(start..end);
@@ -110,7 +110,7 @@ pub fn smaller_lists(lists: &Lists) -> Vec<Lists> {
         }
         smaller.push(candidate);
     }
-    for at in 0..10 {
+    for at in 0..LISTS {
         for place in 0..lists.all()[at].len() {
             if lists.all()[at][place] > 1 {
                 let mut candidate = lists.clone();

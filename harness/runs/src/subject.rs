@@ -1,12 +1,12 @@
 //! The calls under test: the library's, by its C functions, and those of the crate `plain`.
 
-use crate::lists::Call;
+use crate::lists::{Call, LISTS};
 use crate::Told;
 use calls::told;
 use plain::Refusal;
-use slices::{Arcs, CostRoom, Costs, Graph, GraphRoom, Roads};
+use slices::{Arcs, CostRoom, Costs, Graph, GraphRoom, Roads, Way};
 
-/// The four calls of one implementation, with the numbers that they tell.
+/// The calls of one implementation, with the numbers that they tell.
 pub trait Subject {
     /// Its name in reports.
     fn name(&self) -> &'static str;
@@ -30,6 +30,9 @@ pub trait Subject {
         to: u32,
         route: &mut [u32],
     ) -> Told;
+
+    /// A sweep.
+    fn sweep(&self, way: Way, graph: Graph, costs: Costs, end: u32, distances: &mut [u32]) -> Told;
 }
 
 /// Both.
@@ -40,10 +43,10 @@ pub const SUBJECTS: [&dyn Subject; 2] = [&Library, &Plain];
 pub fn run(
     subject: &dyn Subject,
     call: Call,
-    lists: [&mut [u32]; 10],
+    lists: [&mut [u32]; LISTS],
     (from, to): (u32, u32),
 ) -> Told {
-    let [tails, heads, costs, order, rank, first, row_heads, up, down, route] = lists;
+    let [tails, heads, costs, order, rank, first, row_heads, up, down, route, distances] = lists;
     let arcs = Arcs { tails, heads };
     let roads = Roads { arcs, costs };
     let graph = Graph {
@@ -64,6 +67,13 @@ pub fn run(
         Call::Customise => subject.customise(roads, graph, CostRoom { up, down }),
         Call::Distance => subject.distance(graph, Costs { up, down }, from, to),
         Call::Route => subject.route(roads, graph, Costs { up, down }, from, to, route),
+        Call::Sweep(way) => {
+            let end = match way {
+                Way::From => from,
+                Way::To => to,
+            };
+            subject.sweep(way, graph, Costs { up, down }, end, distances)
+        }
     }
 }
 
@@ -101,6 +111,10 @@ impl Subject for Library {
         route: &mut [u32],
     ) -> Told {
         as_told(told::route(roads, graph, costs, from, to, route))
+    }
+
+    fn sweep(&self, way: Way, graph: Graph, costs: Costs, end: u32, distances: &mut [u32]) -> Told {
+        as_told(told::sweep(way, graph, costs, end, distances))
     }
 }
 
@@ -168,6 +182,11 @@ impl Subject for Plain {
             },
             Err(refusal) => refused(refusal),
         }
+    }
+
+    fn sweep(&self, way: Way, graph: Graph, costs: Costs, end: u32, distances: &mut [u32]) -> Told {
+        let swept = plain::sweep(way, graph, costs, end, distances);
+        swept.map_or_else(refused, |()| Told::default())
     }
 }
 

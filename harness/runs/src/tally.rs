@@ -13,10 +13,12 @@ pub struct Tally {
     pub calls: u64,
     /// Pairs of junctions asked for.
     pub pairs: u64,
+    /// Sweeps asked for.
+    pub swept: u64,
     /// Routes driven arc by arc.
     pub driven: u64,
     /// How often each refusal was expected; at 0, how often a call was accepted.
-    pub numbers: [u64; 14],
+    pub numbers: [u64; 17],
 }
 
 impl Tally {
@@ -32,6 +34,7 @@ impl Tally {
         self.garbage += other.garbage;
         self.calls += other.calls;
         self.pairs += other.pairs;
+        self.swept += other.swept;
         self.driven += other.driven;
         for (sum, more) in self.numbers.iter_mut().zip(other.numbers) {
             *sum += more;
@@ -40,8 +43,13 @@ impl Tally {
 
     /// The refusals that were never expected.
     pub fn missing(&self) -> Vec<usize> {
-        (1..=13)
+        refusals()
             .filter(|&number| self.numbers[number] == 0)
             .collect()
     }
+}
+
+/// The refusals that a call can give: 14 is the program's alone.
+pub fn refusals() -> impl Iterator<Item = usize> {
+    (1..=16).filter(|&number| number != 14)
 }

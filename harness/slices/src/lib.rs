@@ -1,7 +1,8 @@
 //! What the calls get and write, as structs of slices, and the numbers that they tell: each list is named once, here.
 //!
 //! Build gets [`Arcs`] and the order, and writes a [`GraphRoom`]. Customise gets [`Roads`] and the [`Graph`], and
-//! writes a [`CostRoom`]. Distance gets the graph and its [`Costs`]; route gets the roads too, and writes a route list.
+//! writes a [`CostRoom`]. Distance gets the graph and its [`Costs`]; route gets the roads too, and writes a route list;
+//! the sweeps get what distance gets, with one junction and a [`Way`], and write a distance list.
 
 #![forbid(unsafe_code)]
 
@@ -61,6 +62,15 @@ pub struct CostRoom<'a> {
     pub up: &'a mut [u32],
     /// The down costs.
     pub down: &'a mut [u32],
+}
+
+/// Which of the two sweeps: where the junction given stands in the pairs whose distances are listed.
+#[derive(Clone, Copy, Debug, PartialEq, Eq)]
+pub enum Way {
+    /// From the junction to every one.
+    From,
+    /// From every junction to it.
+    To,
 }
 
 /// The numbers that a call tells. Those that it doesn't tell are 0.

@@ -1,12 +1,12 @@
-//! The four calls over the crate `plain`. They stand in for the library's where that is asked for by name: to try the
-//! runs themselves, and, by the feature `wrong`, to see that they find faults.
+//! The calls over the crate `plain`. They stand in for the library's where that is asked for by name: to try the runs
+//! themselves, and, by the feature `wrong`, to see that they find faults.
 
 mod sound;
 mod wrong;
 
 pub use wrong::{fault, FAULTS};
 
-use slices::{Arcs, CostRoom, Costs, Graph, GraphRoom, Roads, Told};
+use slices::{Arcs, CostRoom, Costs, Graph, GraphRoom, Roads, Told, Way};
 
 /// In place of griezmuld_build.
 pub fn build(arcs: Arcs, order: &[u32], room: GraphRoom) -> Told {
@@ -30,6 +30,29 @@ pub fn distance(graph: Graph, costs: Costs, from: u32, to: u32) -> Told {
         0 => sound::distance(graph, costs, from, to),
         _ => wrong::distance(graph, costs, from, to),
     }
+}
+
+/// In place of griezmuld_sweep_from and griezmuld_sweep_to.
+pub fn sweep(way: Way, graph: Graph, costs: Costs, end: u32, distances: &mut [u32]) -> Told {
+    let swept = Swept {
+        way,
+        graph,
+        costs,
+        end,
+    };
+    match fault() {
+        0 => sound::sweep(swept, distances),
+        _ => wrong::sweep(swept, distances),
+    }
+}
+
+/// All that a sweep reads, and which sweep it is.
+#[derive(Clone, Copy)]
+struct Swept<'a> {
+    way: Way,
+    graph: Graph<'a>,
+    costs: Costs<'a>,
+    end: u32,
 }
 
 /// In place of griezmuld_route.

@@ -1,6 +1,6 @@
 //! The calls as they should be.
 
-use crate::Asked;
+use crate::{Asked, Swept};
 use plain::{Drive, Refusal};
 use slices::{Arcs, CostRoom, Costs, Graph, GraphRoom, Roads, Told};
 
@@ -35,6 +35,13 @@ pub fn distance(graph: Graph, costs: Costs, from: u32, to: u32) -> Told {
             distance: distance.unwrap_or(u64::MAX),
             ..Told::default()
         },
+        Err(refusal) => refused(refusal),
+    }
+}
+
+pub fn sweep(swept: Swept, distances: &mut [u32]) -> Told {
+    match plain::sweep(swept.way, swept.graph, swept.costs, swept.end, distances) {
+        Ok(()) => Told::default(),
         Err(refusal) => refused(refusal),
     }
 }

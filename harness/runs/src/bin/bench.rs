@@ -2,14 +2,15 @@
 
 use nets::stored;
 use runs::lists::Call;
-use runs::measure::{self, at, name, PerJob};
-use runs::ready::{Ready, Who};
+use runs::measure::{self, at, PerJob};
+use runs::ready::{Ready, Who, DAIRIES};
+use slices::Way;
 use std::fmt::Write;
 use std::path::{Path, PathBuf};
 use std::process::exit;
 
 const USAGE: &str = "\
-bench: measures the four calls beside plain safe Rust and Dijkstra
+bench: measures the calls beside plain safe Rust and Dijkstra
 
   --nets FOLDER   where the stored nets are
   --write FILE    put the tables between the two marks of a file, too; only if the library itself is linked
@@ -31,6 +32,7 @@ const MARKS: [&str; 2] = [
     "<!-- tables: to here -->\n",
 ];
 
+/// The calls of the first tables; the sweeps have tables of their own.
 const CALLS: [Call; 4] = [Call::Build, Call::Customise, Call::Distance, Call::Route];
 
 struct Options {
@@ -77,8 +79,9 @@ fn options() -> Result<Option<Options>, String> {
             "--times-only" => options.times_only = true,
             "--quick" => options.quick = true,
             "--under-callgrind" => {
-                let mut ready = Ready::named(&options.nets, &value()?)?;
-                measure::run_for_callgrind(&mut ready);
+                let (net, job) = (value()?, value()?);
+                let job = job.parse().map_err(|_| format!("{job} is no job"))?;
+                measure::griezmuld_measured(&mut Ready::named(&options.nets, &net)?, job);
                 return Ok(None);
             }
             other => return Err(format!("{other} is unknown\n\n{USAGE}")),
@@ -153,6 +156,18 @@ fn report(nets: &[Measured], counties: &[Measured]) -> String {
     growth(&mut text, "Thousands of instructions", counties, |county| {
         county.counts.map(|counts| counts.map(|count| count / 1e3))
     });
+    let _ = write!(
+        text,
+        "## Sweeps\n\n\
+         Means over {DAIRIES} junctions, chosen anyhow among those from which most others can be reached. The sweeps' cells: library / plain Rust = ratio. Dijkstra goes from the \
+         same junctions to all; the column after it is sweep_from's ratio to it. The last column is 64 distance calls of \
+         the library.\n\n"
+    );
+    let all = || nets.iter().chain(counties);
+    sweeps(&mut text, "Microseconds", all(), |net| Some(net.times));
+    sweeps(&mut text, "Thousands of instructions", all(), |net| {
+        net.counts.map(|counts| counts.map(|count| count / 1e3))
+    });
     text
 }
 
@@ -171,7 +186,7 @@ fn table(text: &mut String, net: &Measured) {
         let _ = write!(
             text,
             "| {} | {library:.1} | {plain:.1} | {:.2} |",
-            name(call),
+            call.name(),
             library / plain
         );
         match &net.counts {
@@ -230,6 +245,40 @@ fn growth(
         }
         let dijkstra = numbers[at((Call::Distance, Who::Dijkstra))];
         let _ = writeln!(text, " {dijkstra:.1} |");
+    }
+    text.push('\n');
+}
+
+/// A table of both sweeps by one kind of numbers, if they were measured.
+fn sweeps<'a>(
+    text: &mut String,
+    kind: &str,
+    nets: impl Iterator<Item = &'a Measured>,
+    numbers: impl Fn(&Measured) -> Option<PerJob<f64>>,
+) {
+    // writing to a string never fails
+    let _ = write!(
+        text,
+        "{kind}:\n\n\
+         | net | n | E | sweep_from | sweep_to | Dijkstra | ratio | 64 distances |\n\
+         |---|---:|---:|---:|---:|---:|---:|---:|\n"
+    );
+    for net in nets {
+        let Some(numbers) = numbers(net) else {
+            continue;
+        };
+        let Measured { name, n, edges, .. } = net;
+        let _ = write!(text, "| {name} | {n} | {edges} |");
+        for way in [Way::From, Way::To] {
+            let both = [Who::Library, Who::Plain].map(|who| at((Call::Sweep(way), who)));
+            let [library, plain] = both.map(|job| numbers[job]);
+            let ratio = library / plain;
+            let _ = write!(text, " {library:.1} / {plain:.1} = {ratio:.2} |");
+        }
+        let all = [Who::Library, Who::Dijkstra, Who::Singly];
+        let [library, dijkstra, singly] = all.map(|who| numbers[at((Call::Sweep(Way::From), who))]);
+        let ratio = library / dijkstra;
+        let _ = writeln!(text, " {dijkstra:.1} | {ratio:.2} | {singly:.1} |");
     }
     text.push('\n');
 }

@@ -7,7 +7,7 @@ use cases::Case;
 use nets::source::Source;
 use nets::{order, stored, Net};
 use runs::garbage::{self, Handed};
-use runs::tally::Tally;
+use runs::tally::{refusals, Tally};
 use runs::{bounds, examples, judge, shrink};
 use std::panic::{catch_unwind, AssertUnwindSafe};
 use std::path::PathBuf;
@@ -21,6 +21,7 @@ properties: holds the library's calls to the rules on many nets and lists
 
   --seed N        where the random cases come from (default: the time)
   --seconds N     how long to try random cases (default: 3,000 rounds, or until 80 seconds have passed)
+  --patience N    after how many seconds a case that has not ended is taken for one that never does (default: 120)
   --only NAME     only the cases of that name, as `small`, `small 17`, `garbage`, `stored nets`
   --nets FOLDER   where the stored nets are
   --trace         tell each case before it is run
@@ -42,12 +43,13 @@ const GARBAGE: usize = 20;
 const LARGE_EVERY: u64 = 250;
 const LARGE: [usize; 8] = [100, 250, 700, 400, 1_200, 150, 2_000, 4_096];
 
-/// How long a single case may take.
-const PATIENCE: Duration = Duration::from_secs(120);
+/// How long a single case may take by default, in seconds.
+const PATIENCE: u64 = 120;
 
 struct Options {
     seed: u64,
     seconds: Option<u64>,
+    patience: Duration,
     only: Option<String>,
     nets: PathBuf,
     trace: bool,
@@ -78,6 +80,7 @@ fn options() -> Result<Options, String> {
     let mut options = Options {
         seed: Source::seed_of_the_time(),
         seconds: None,
+        patience: Duration::from_secs(PATIENCE),
         only: None,
         nets: stored::folder(),
         trace: false,
@@ -87,6 +90,7 @@ fn options() -> Result<Options, String> {
         match word.as_str() {
             "--seed" => options.seed = words.number()?,
             "--seconds" => options.seconds = Some(words.number()?),
+            "--patience" => options.patience = Duration::from_secs(words.number()?),
             "--only" => options.only = Some(words.value()?),
             "--nets" => options.nets = words.value()?.into(),
             "--trace" => options.trace = true,
@@ -118,11 +122,12 @@ impl Run {
     /// "every call returns": a case that doesn't is told, and ends the run.
     fn watch(&self) {
         let at = Arc::clone(&self.at);
+        let patience = self.options.patience;
         thread::spawn(move || loop {
             thread::sleep(Duration::from_secs(1));
             let Ok(at) = at.lock() else { return };
-            if at.1.elapsed() > PATIENCE {
-                println!("FAILED {}: no end after {PATIENCE:?}", at.0);
+            if at.1.elapsed() > patience {
+                println!("FAILED {}: no end after {patience:?}", at.0);
                 exit(1);
             }
         });
@@ -291,10 +296,8 @@ impl Run {
     /// The last lines, and the exit status.
     fn summary(&self) -> i32 {
         let tally = &self.tally;
-        let numbers: Vec<String> = tally.numbers[1..]
-            .iter()
-            .zip(1..)
-            .map(|(count, number)| format!("{number}: {count}"))
+        let numbers: Vec<String> = refusals()
+            .map(|number| format!("{number}: {}", tally.numbers[number]))
             .collect();
         println!(
             "accepted {}; refusals {}",
@@ -308,11 +311,12 @@ impl Run {
             failed += 1;
         }
         println!(
-            "{}: {} nets, {} sets of garbage lists, {} pairs, {} routes driven, {} calls compared in {} s: {failed} failed",
+            "{}: {} nets, {} sets of garbage lists, {} pairs, {} sweeps, {} routes driven, {} calls compared in {} s: {failed} failed",
             calls::linked(),
             tally.nets,
             tally.garbage,
             tally.pairs,
+            tally.swept,
             tally.driven,
             tally.calls,
             self.start.elapsed().as_secs()

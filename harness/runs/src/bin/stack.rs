@@ -1,21 +1,18 @@
 //! How much stack each call needs: the least stack of a thread on which it returns, on the lists that ask most of it.
 
 use nets::order;
-use runs::lists::{stale, Call, Lent, Lists};
+use runs::lists::{stale, Call, Lent, Lists, CALLS};
 use runs::subject::{Library, Plain, Subject};
+use std::hint::black_box;
 use std::process::{exit, Command, Stdio};
 use std::thread;
-
-const CALLS: [(&str, Call); 4] = [
-    ("build", Call::Build),
-    ("customise", Call::Customise),
-    ("distance", Call::Distance),
-    ("route", Call::Route),
-];
 
 /// Stacks are tried in steps of so many bytes, up to so many steps.
 const STEP: usize = 16_384;
 const MOST_STEPS: usize = 1_024;
+
+/// Bytes of each thread's stack that are taken before the call, as no system makes a thread with a very small stack.
+const TAKEN: usize = 262_144;
 
 fn main() {
     let words: Vec<String> = std::env::args().skip(1).collect();
@@ -23,13 +20,13 @@ fn main() {
         let (Ok(call), Ok(size)) = (call.parse::<usize>(), size.parse()) else {
             exit(2);
         };
-        attempt(who == "library", CALLS[call].1, size);
+        attempt(who == "library", CALLS[call], size);
     }
     println!("linked: {}", calls::linked());
-    println!("call       library   plain Rust   (bytes of stack, to the next 16,384)");
-    for (at, (name, _)) in CALLS.iter().enumerate() {
+    println!("call        library   plain Rust   (bytes of stack, to the next 16,384)");
+    for (at, call) in CALLS.iter().enumerate() {
         let [library, plain] = ["library", "plain"].map(|who| least(who, at));
-        println!("{name:9} {library:>8} {plain:>12}");
+        println!("{:10} {library:>8} {plain:>12}", call.name());
     }
 }
 
@@ -62,9 +59,20 @@ fn attempt(library: bool, call: Call, size: usize) -> ! {
         let subject: &dyn Subject = if library { &Library } else { &Plain };
         lent.call(subject, call, lists.from, lists.to).number
     };
-    let thread = thread::Builder::new().stack_size(size).spawn(run);
+    let thread = thread::Builder::new().stack_size(TAKEN + size);
+    let thread = thread.spawn(|| with_less_stack(run));
     let number = thread.expect("a thread").join();
     exit(i32::from(!matches!(number, Ok(0))));
+}
+
+/// Takes the bytes, then runs.
+#[inline(never)]
+fn with_less_stack(run: impl FnOnce() -> u32) -> u32 {
+    let mut taken = [0u8; TAKEN];
+    black_box(&mut taken);
+    let number = run();
+    black_box(&mut taken);
+    number
 }
 
 /// A path of 4,096 junctions with both ends last in the order: one shortcut spans it, and is opened some 4,000 deep.
@@ -86,10 +94,11 @@ fn deepest(call: Call) -> (Lists, Lent) {
         up: stale(edges),
         down: stale(edges),
         route: stale(n - 1),
+        distances: stale(n),
         from: 0,
         to: last,
     };
-    for (_, before) in CALLS {
+    for before in CALLS {
         if before == call {
             break;
         }

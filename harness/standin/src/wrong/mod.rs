@@ -3,6 +3,9 @@
 #![allow(unsafe_code)]
 
 mod sloppy;
+mod sweeps;
+
+pub use sweeps::sweep;
 
 use crate::{sound, Asked};
 use plain::CLOSED;
@@ -25,7 +28,7 @@ pub const fn fault() -> u32 {
 }
 
 /// What each fault is, in words.
-pub const FAULTS: [&str; 46] = [
+pub const FAULTS: [&str; 69] = [
     "refuses all",
     "distance and route always say none",
     "distance and route always say 0",
@@ -72,6 +75,29 @@ pub const FAULTS: [&str; 46] = [
     "10 is told before 9",
     "a label of 0 above the start is none",
     "the number of arcs is made up",
+    "the two sweeps are exchanged",
+    "a sweep lists none as 0",
+    "the place of 16 is a position",
+    "the place of 16 is the highest junction",
+    "after 16 the distance list is left",
+    "after 16 the distances found are left",
+    "after 15 the distance list is all CLOSED",
+    "a sweep fills in only the chain above its end",
+    "a sweep leaves the distance list and says done",
+    "a sweep lists distances by position",
+    "a longer distance list is accepted",
+    "a shorter distance list is accepted",
+    "16 is told before 15",
+    "15 is told before 11",
+    "none is told as 16",
+    "a sweep takes what is CLOSED or more half way for none",
+    "a distance of just CLOSED is listed",
+    "a sweep climbs by the costs of the way down",
+    "a sweep goes on over CLOSED on the way down",
+    "a sweep goes down from the lowest position",
+    "a sweep doesn't test the parent rule",
+    "a sweep refuses n = 4,096",
+    "one place past the distance list is written",
 ];
 
 /// 1: the refusal of everything.
