@@ -1,7 +1,7 @@
 -- The whole answer, case by case: what was written is what the definition says. Assumes nothing.
-use Prim.Native.Nat.{ℕ, zero, suc, _+_, _≤_}
+use Prim.Native.Nat.{ℕ, suc, _+_, _≤_}
 use mathlib.Core.Path.{_≡_, refl, sym, ap, _∙_, subst}
-use mathlib.Core.List.{List, _∷_, _++_}
+use mathlib.Core.List.{List, _++_}
 use native.Mathlib.Omega.{arith}
 use lib.ListN.{length, take, drop, length-take, length-append, take-append-drop}
 use Rattle.rules.specs.declared.Refusal.{Refusal}
@@ -18,7 +18,9 @@ use Rattle.text.specs.Program.{edgesLine, refusedLine, replyLines, noughts, rea
 use Rattle.reader.specs.declared.Counts.{Counts}
 use Rattle.reader.specs.declared.Reading.{Reading}
 use Rattle.reader.specs.declared.Reading.the-variants.{Text, Breaks}
-use Rattle.reader.specs.ReadOn.{Rooms, CountsWithin, CountsFit, readingOf}
+use Rattle.reader.specs.ReadOn.{Rooms, CountsWithin, readingOf}
+use Rattle.text.proofs.Noughts.{in-noughts}
+use Rattle.reader.proofs.ReadAll.{order-long}
 use Rattle.print.specs.Written.{Wrote}
 use Rattle.print.proofs.Wrote.{wrote-then}
 use Rattle.program.specs.Answered.{AnswerLeaves, answerLeft, answerLeaves, Limits}
@@ -73,28 +75,12 @@ module _ (N : Net) (froms tos : List ℕ) (b : BuildLeaves) (before : List ℕ) 
       let f′ : buildLeft rank G (edges e) ≡ b = rw g at f in
       subst (λ x. Wrote before 0 (answerBuilt N froms tos x) after next) f′ w
 
--- ---- parts of lists
-
--- the first n places of a list are n long
-pub take-long : (n : ℕ) (l : List ℕ) (m : ℕ) → n ≤ m → length l ≡ m → n ≡ length (take n l)
-take-long n l m h e = omega (arith, length-take n l)
-
-take-noughts : (n m : ℕ) → n ≤ m → take n (noughts m) ≡ noughts n
-take-noughts zero m h = refl
-take-noughts (suc n) zero h = absurd (omega arith)
-take-noughts (suc n) (suc m) h = ap (λ l. 0 ∷ l) (take-noughts n m (omega arith))
-
--- the rooms of a graph of n junctions
-pub in-noughts : (N : Net) (tails heads order rank : List ℕ) (G : Graph) (froms tos before after : List ℕ) (n next : ℕ) → n ≤ 256 → n ≡ length order
-    → rank ≡ take n (noughts 256) → G ≡ graph (take (n + 1) (noughts 257)) (noughts 4096)
-    → Wrote before 0 (answerBuilt N froms tos (buildLeaves tails heads order rank G)) after next
+-- in the rooms of a graph of n junctions
+pub answered-in-noughts : (N : Net) (tails heads order froms tos before after : List ℕ) (next : ℕ) → length order ≤ 256
+    → Wrote before 0 (answerBuilt N froms tos (buildLeaves tails heads order (take (length order) (noughts 256)) (graph (take (length order + 1) (noughts 257)) (noughts 4096)))) after next
     → Wrote before 0 (answerBuilt N froms tos (buildLeaves tails heads order (noughts (length order)) (graph (noughts (suc (length order))) (noughts 4096)))) after next
-in-noughts N tails heads order rank G froms tos before after n next h e er eg w =
-    let f : n + 1 ≡ suc n = omega arith in
-    let er′ : rank ≡ noughts (length order) = er ∙ take-noughts n 256 h ∙ ap (λ k. noughts k) e in
-    let ef : take (n + 1) (noughts 257) ≡ noughts (suc (length order)) =
-    ap (λ k. take k (noughts 257)) f ∙ take-noughts (suc n) 257 (omega arith) ∙ ap (λ k. noughts (suc k)) e in
-    rw (er′, eg ∙ ap (λ l. graph l (noughts 4096)) ef) at w
+answered-in-noughts N tails heads order froms tos before after next h w =
+    in-noughts (λ rank G. Wrote before 0 (answerBuilt N froms tos (buildLeaves tails heads order rank G)) after next) (length order) h w
 
 -- ---- the whole
 
@@ -131,9 +117,6 @@ text-breaks input before r t h k o f g line number after next s e n w =
     let v : Wrote before 0 (refusedLine 14) after next = rw n at w in
     answer-left input before after next (rw b v)
 
-pub within : (r : Reading) (c : Counts) → r ≡ Text c → CountsFit r → CountsWithin c
-within r c e fit = subst CountsFit e fit
-
 module _ (c : Counts) (t h k o f g : List ℕ) (fit : CountsWithin c) (rooms : Rooms t h k o f g) where
   pub text-limits : Limits (take (c .arcs) t) (take (c .questions) f) (take (c .questions) g)
   text-limits =
@@ -142,12 +125,6 @@ module _ (c : Counts) (t h k o f g : List ℕ) (fit : CountsWithin c) (rooms : R
         questions-fit = omega (arith, length-take (c .questions) f, fit .questions-fit);
         ends-there = omega (arith, length-take (c .questions) f, length-take (c .questions) g, rooms .froms-room, rooms .tos-room);
       }
-
-  pub order-long : length (take (c .junctions) o) ≡ c .junctions
-  order-long = sym (take-long (c .junctions) o 256 (fit .junctions-fit) (rooms .order-room))
-
-  pub order-fits : length (take (c .junctions) o) ≤ 256
-  order-fits = omega (arith, order-long, fit .junctions-fit)
 
   pub text-answered : (r : Reading) → r ≡ Text c → (input before after : List ℕ) (next : ℕ) → readingOf r t h k o f g ≡ readAll input
       → Wrote before 0 (answerBuilt (net (take (c .arcs) t) (take (c .arcs) h) (take (c .arcs) k) (take (c .junctions) o)) (take (c .questions) f) (take (c .questions) g) (buildLeaves (take (c .arcs) t) (take (c .arcs) h) (take (c .junctions) o) (noughts (length (take (c .junctions) o))) (graph (noughts (suc (length (take (c .junctions) o)))) (noughts 4096)))) after next
@@ -160,5 +137,5 @@ module _ (c : Counts) (t h k o f g : List ℕ) (fit : CountsWithin c) (rooms : R
       let order = take (c .junctions) o in
       let v =
       subst (λ n. Wrote before 0 (answerBuilt (net tails heads (take (c .arcs) k) order) (take (c .questions) f) (take (c .questions) g) (buildLeaves tails heads order (noughts n) (graph (noughts (suc n)) (noughts 4096)))) after next)
-      order-long w in
+      (order-long c o fit (rooms .order-room)) w in
       answer-left input before after next (rw b v)

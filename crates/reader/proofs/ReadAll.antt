@@ -1,41 +1,57 @@
 -- The reader, line after line, comes to what the definition reads. Assumes nothing.
 use Prim.Native.Nat.{ℕ, suc, _+_, _-_, _≤_, _<_}
-use mathlib.Core.Path.{_≡_, refl, sym, ap, _∙_}
+use mathlib.Core.Path.{_≡_, refl, sym, ap, _∙_, subst}
 use mathlib.Core.Bool.{Bool, true, false, cond}
 use mathlib.Core.List.{List, [], _∷_}
 use native.Mathlib.Omega.{arith}
 use native.Mathlib.Numerals.{add-one}
-use lib.ListN.{length, drop, drop-of-length-le}
+use lib.ListN.{length, take, drop, length-take, drop-of-length-le}
 use lib.Seq.{slice, take-length, length-slice}
 use borrow.Author.Tests.{lt-ltb, le-ltb, ne-eqb}
 use Rattle.reader.specs.declared.State.{State}
 use Rattle.reader.specs.declared.Step.the-variants.{Next}
+use Rattle.reader.specs.declared.Counts.{Counts}
+use Rattle.reader.specs.declared.Reading.{Reading}
+use Rattle.reader.specs.declared.Reading.the-variants.{Text}
 use Rattle.text.specs.Bytes.{lf, cutAt, words}
 use Rattle.text.specs.Program.{Line, other, lineOf, endedLines, linesOf, Read, breaks, fits, with, readOn, readAll}
 use Rattle.text.specs.ReadBack.{PartEnd, partsAfter}
-use Rattle.reader.specs.ReadOn.{nothingYet, Within, Rooms, soFar, placed, unfit, placedOf, stepBack, Behind, finished, readingOf}
+use Rattle.reader.specs.ReadOn.{nothingYet, Within, Rooms, soFar, placed, unfit, placedOf, stepBack, Behind, finished, readingOf, CountsWithin, CountsFit}
 use Rattle.text.proofs.LineOf.{some-part}
+use Rattle.text.proofs.Noughts.{take-long}
 use Rattle.reader.proofs.Stored.{finish-reads}
 
 -- the bytes up to the last are all there are
 whole-slice : (l : List ℕ) (at : ℕ) → slice at (length l) l ≡ drop at l
 whole-slice l at = ap (drop at) (take-length l)
 
+-- the first part from `at` on ends with LF, and others follow
+pub part-ended : (l : List ℕ) (at end : ℕ) → PartEnd l at (length l) lf end → end < length l → cutAt lf (drop at l) ≡ slice at end l ∷ cutAt lf (drop (end + 1) l)
+unfolding partsAfter
+part-ended l at end p h =
+    let c : cutAt lf (drop at l) ≡ slice at end l ∷ partsAfter lf l end (length l) = rw (whole-slice l at) at (p .cut) in
+    rw (add-one, c, lt-ltb end (length l) h, whole-slice l (suc end)) refl
+
+-- the last part has no LF
+pub part-last : (l : List ℕ) (at end : ℕ) → PartEnd l at (length l) lf end → end ≡ length l → cutAt lf (drop at l) ≡ slice at end l ∷ []
+unfolding partsAfter
+part-last l at end p e =
+    let c : cutAt lf (drop at l) ≡ slice at end l ∷ partsAfter lf l end (length l) = rw (whole-slice l at) at (p .cut) in
+    rw (c, le-ltb end (length l) (omega arith)) refl
+
 -- the first line from `at` on ends with LF
 line-here : (l : List ℕ) (at end : ℕ) → PartEnd l at (length l) lf end → end < length l → linesOf (drop at l) ≡ lineOf (words (slice at end l)) ∷ linesOf (drop (end + 1) l)
-unfolding partsAfter endedLines
+unfolding endedLines
 line-here l at end p h =
-    let (x, xs, e) = some-part lf (drop (suc end) l) in
-    let c : cutAt lf (drop at l) ≡ slice at end l ∷ partsAfter lf l end (length l) = rw (whole-slice l at) at (p .cut) in
-    rw (add-one, c, lt-ltb end (length l) h, whole-slice l (suc end), e) refl
+    let (x, xs, e) = some-part lf (drop (end + 1) l) in
+    rw (part-ended l at end p h, e) refl
 
 -- the last line has no LF
 line-unended : (l : List ℕ) (at end : ℕ) → PartEnd l at (length l) lf end → end ≡ length l → at < length l → linesOf (drop at l) ≡ other ∷ []
-unfolding partsAfter endedLines
+unfolding endedLines
 line-unended l at end p e h =
-    let c : cutAt lf (drop at l) ≡ slice at end l ∷ partsAfter lf l end (length l) = rw (whole-slice l at) at (p .cut) in
     let s : length (slice at end l) ≡ end - at = length-slice at end l (omega arith) in
-    rw (c, le-ltb end (length l) (omega arith), s, ne-eqb (end - at) 0 (λ q. omega arith)) refl
+    rw (part-last l at end p e, s, ne-eqb (end - at) 0 (λ q. omega arith)) refl
 
 -- ---- one line
 
@@ -124,3 +140,14 @@ module _ (l : List ℕ) (s : State) (at line : ℕ) (t h k o f g : List ℕ) (d 
   reads-all e =
       finish-reads s t h k o f g (d .within) (d .rooms) line
       ∙ (let n : drop at l ≡ [] = drop-of-length-le l e in rw n at (d .says))
+
+-- what a text that was read says stays within the lists
+pub within : (r : Reading) (c : Counts) → r ≡ Text c → CountsFit r → CountsWithin c
+within r c e fit = subst CountsFit e fit
+
+-- and its order is as long as was counted
+pub order-long : (c : Counts) (o : List ℕ) → CountsWithin c → length o ≡ 256 → length (take (c .junctions) o) ≡ c .junctions
+order-long c o fit e = sym (take-long (c .junctions) o 256 (fit .junctions-fit) e)
+
+pub order-fits : (c : Counts) (o : List ℕ) → CountsWithin c → length (take (c .junctions) o) ≤ 256
+order-fits c o fit = omega (arith, length-take (c .junctions) o, fit .junctions-fit)

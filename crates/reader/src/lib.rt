@@ -26,7 +26,7 @@ pub struct State {
 
 impl State {
     // Nothing has been read.
-    fn new() -> Self
+    pub fn new() -> Self
         ensures { λ r. ⌜ r ≡ nothingYet ⌝ }
     {
         Self {

@@ -1,3 +1,4 @@
 pub mod ProgramExamples
 pub mod TakenFrom
 pub mod LineOf
+pub mod Noughts

@@ -211,7 +211,7 @@ unfolding wordsFrom
 words-none l to at h = rw (lt-leb at to h) refl
 
 -- the first word ends where its part does, and the cursor behind it leaves the others
-words-first : (l : List ℕ) (to at end : ℕ) → at ≤ to → PartEnd l at to space end → wordsFrom l to at ≡ slice at end l ∷ wordsFrom l to (end + 1)
+pub words-first : (l : List ℕ) (to at end : ℕ) → at ≤ to → PartEnd l at to space end → wordsFrom l to at ≡ slice at end l ∷ wordsFrom l to (end + 1)
 unfolding wordsFrom partsAfter
 words-first l to at end h p = rw (le-leb at to h, p .cut, add-one) refl
 

@@ -89,7 +89,7 @@ fn number(input: &[u8], from: usize, to: usize) -> Value
 }
 
 // A word is the one byte.
-fn is_byte(input: &[u8], from: usize, to: usize, byte: u8) -> bool
+pub fn is_byte(input: &[u8], from: usize, to: usize, byte: u8) -> bool
     requires { ⌜ (from ≤ to) × (to ≤ length (now input)) ⌝ }
     ensures { λ r. ⌜ r ≡ isCalled byte (slice from to (now (input .entry))) ⌝ }
 {
@@ -153,7 +153,7 @@ fn cost(input: &[u8], from: usize, to: usize) -> Value
 }
 
 // A word by its kind.
-fn said(input: &[u8], from: usize, to: usize, kind: Kind) -> Value
+pub fn said(input: &[u8], from: usize, to: usize, kind: Kind) -> Value
     requires { ⌜ (from ≤ to) × (to ≤ length (now input)) ⌝ }
     ensures { λ r. ⌜ r ≡ valueSaid kind (slice from to (now (input .entry))) ⌝ }
 {

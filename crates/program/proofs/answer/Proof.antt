@@ -2,7 +2,9 @@
 use borrow.Author.Needs.{needs}
 use native.Mathlib.Omega.{arith}
 use Rattle.reader.specs.ReadOn.{CountsWithin}
-use Rattle.program.proofs.AnswerLeaves.{within, take-long, text-limits, order-fits, text-breaks, text-answered}
+use Rattle.reader.proofs.ReadAll.{within, order-fits}
+use Rattle.text.proofs.Noughts.{take-long}
+use Rattle.program.proofs.AnswerLeaves.{text-limits, text-breaks, text-answered}
 use Rattle.program.proofs.answer.Statement.{statement}
 use Rattle.program.proofs.answer.Tie as tie
 
@@ -47,7 +49,7 @@ slice-aggregate-answer-read-6 : tie.Need-slice-aggregate-answer-read-6
 slice-aggregate-answer-read-6 c = take-long _ _ _ (fits (c .before .before .before .before .before .before .before) .questions-fit) (c .before .before .before .before .before .before .before .before .before .read-text .ensures .1 .1 .tos-room)
 
 answer-read-requires : tie.Need-answer-read-requires
-answer-read-requires c κs = (text-limits _ _ _ _ _ _ _ (fits (c .before .before .before .before .before .before .before .before)) (c .before .before .before .before .before .before .before .before .before .before .read-text .ensures .1 .1), order-fits _ _ _ _ _ _ _ (fits (c .before .before .before .before .before .before .before .before)) (c .before .before .before .before .before .before .before .before .before .before .read-text .ensures .1 .1), c .before .before .before .before .before .before .before .before .before .before .before .before .before .before .before .before .before .before .pre)
+answer-read-requires c κs = (text-limits _ _ _ _ _ _ _ (fits (c .before .before .before .before .before .before .before .before)) (c .before .before .before .before .before .before .before .before .before .before .read-text .ensures .1 .1), order-fits _ _ (fits (c .before .before .before .before .before .before .before .before)), c .before .before .before .before .before .before .before .before .before .before .before .before .before .before .before .before .before .before .pre)
 
 returns : tie.Need-returns
 returns c = text-answered _ _ _ _ _ _ _ (fits (c .before .before .before .before .before .before .before .before .before)) (c .before .before .before .before .before .before .before .before .before .before .before .read-text .ensures .1 .1) (c .before .before .before .before .before .before .before .before .before .before .before .read-text .result) (c .before .before .before .before .before .before .before .before .before .counts .given .1) (c .before .before .before .before .before .before .before .before .before .before .before .before .before .before .before .before .before .before .before .args .input .now) (c .before .before .before .before .before .before .before .before .before .before .before .before .before .before .before .before .before .before .before .args .output .now) _ _ (c .before .before .before .before .before .before .before .before .before .before .before .read-text .ensures .0) (c .answer-read .ensures)
