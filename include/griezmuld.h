@@ -1,5 +1,5 @@
 /*
- * Griezmuld: cheapest driving routes of milk tankers.
+ * Griezmuld: cheapest driving routes of milk tankers. For x86-64 Linux only: the archive is code for no other.
  *
  * Six calls. griezmuld_build makes a graph of shortcuts from the roads and an order of the junctions; it is called once
  * for an area. griezmuld_customise puts costs onto that graph; it is called whenever a cost changes. griezmuld_distance
@@ -27,42 +27,34 @@
  *   Every list is a pointer and a length, counted in elements. The caller owns every list, before and after. A call keeps
  *   no pointer, takes no memory from a heap, and has no state: calls on different lists may run on several threads at once.
  *   A list that is const is only read. A list that a call writes must not overlap any other list of that call.
- *   A pointer must not be NULL, even where its length is 0; it is then not used.
+ *   A pointer must not be NULL, even where its length is 0; it is then not used. An empty std::vector's data() and
+ *   malloc(0) may be NULL: lend GRIEZMULD_EMPTY for an empty list.
  *
  * Stack
  *   What a call needs besides the lists it keeps on the stack. On the lists that ask most of it, measured for x86-64 to
  *   the next 16 KiB: build 128 KiB, customise 48 KiB, distance 80 KiB, either sweep 48 KiB, route 1,456 KiB. Of route's,
  *   some 160 KiB are always used; the rest is for shortcuts made of shortcuts, some 330 bytes for each inside another. They
  *   nest 4,000 deep only if the order is as bad as can be, but nothing forbids such an order: give the thread that calls
- *   route 2 MiB.
+ *   route GRIEZMULD_ROUTE_STACK bytes. examples/c/thread.c does so.
+ *
+ * What a call costs
+ *   Any lists may come in, so every call checks its lists anew, each time: a distance or a sweep goes once through order,
+ *   rank, first and row_heads before it turns to the question itself, and a route through the arcs besides. On 4,096
+ *   junctions with 12,794 arcs and 53,884 edges, on the machine of docs/BENCHMARKS.md, a distance takes some 0.2
+ *   milliseconds, most of it checks, a route 0.5, build 0.4 and customise 2.2. Many distances from one junction, or to one,
+ *   come cheaper by a sweep: it makes its checks once.
  *
  * Replies
- *   Each call returns the number of a refusal, 0 when it has accepted. It always writes *place: the place of the fault,
- *   which is 0 unless the table below names another, and 0 when accepted. Its other numbers it always writes, too; after a
+ *   Each call returns the number of a refusal: one of enum griezmuld_refusal, GRIEZMULD_ACCEPTED when it has accepted.
+ *   griezmuld_refusal_text says each in words. A call makes its checks in the order given with it; the first that fails
+ *   decides.
+ *   It always writes *place: with 3, 8 and 9 the arc at fault, with 4 the position, with 16 the junction, the lowest if
+ *   there are several; with any other refusal, and when accepted, 0. Its other numbers it always writes, too; after a
  *   refusal they are 0.
+ *   After a refusal every list is as it was, except: after 6, rank, first and row_heads are all 0; after 12 or 13 every
+ *   place of the route list is 4,294,967,295; after 16 every place of distances is.
  *   Whatever the lists hold, a call returns, if its thread has the stack named above, and it writes nothing outside the
  *   lists and numbers that it is lent to write. With less stack the system ends the program: no reply tells of it.
- *
- * Refusals. A call makes its checks in the order given with it; the first that fails decides, and the lowest fault of a
- * kind gives the place.
- *    1  n is 0 or over 4,096
- *    2  the arc lists differ in length or exceed 16,384
- *    3  an arc end is n or more; the place is the arc
- *    4  an order entry is n or more, or was seen earlier; the place is the position
- *    5  rank isn't n long, or first isn't n + 1 long
- *    6  row_heads is shorter than E
- *    7  rank, first and row_heads aren't a hierarchy in the sense of document 01, as build writes one for this order
- *       (a hierarchy may have more edges than build would make, however many; E is then its own first[n])
- *    8  an arc with unequal ends has no edge; the place is the arc
- *    9  an arc cost is 0, or over 500,000 and not closed; the place is the arc
- *   10  up or down is shorter than E
- *   11  from or to is n or more
- *   12  an arc of the route has no place left
- *   13  a piece of the route fits neither an arc nor two lower pieces: up and down were not customised for these costs
- *   15  distances isn't n long (14 is given by the program `route`, and by no call)
- *   16  a distance is 4,294,967,295 or more; the place is the junction (never with up and down as customise left them)
- * After a refusal every list is as it was, except: after 6, rank, first and row_heads are all 0; after 12 or 13 every place
- * of the route list is 4,294,967,295; after 16 every place of distances is.
  *
  * How long the lists must be, for m arcs
  *   tails, heads, costs   m
@@ -88,8 +80,9 @@
  *                                 up, 1, down, 1, 1, 0, route, 1, &place, &distance, &arcs);
  *   // now refused is 0, distance is 150, arcs is 1, route[0] is 1
  *
- * A longer one is examples/c/example.c. Link with libtablet.a; `make library` puts it and this file into target/. The
- * archive calls one function from outside, memset; any C library has it.
+ * A longer one is examples/c/example.c. Link with libtablet.a; `make library` puts it and this file into target/.
+ * `make install` puts both where compilers look, the archive as libgriezmuld.a: link with what `pkg-config --libs griezmuld`
+ * says. The archive calls one function from outside, memset; any C library has it.
  */
 #ifndef GRIEZMULD_H
 #define GRIEZMULD_H
@@ -100,6 +93,9 @@
 #ifdef __cplusplus
 extern "C" {
 #endif
+
+/* The release that this header is of: major * 10000 + minor * 100 + patch. */
+#define GRIEZMULD_VERSION 10200u
 
 /*
  * The cost of a closed arc, and of an edge that nobody can drive; what fills a route list where no arc stands, and
@@ -116,6 +112,68 @@ extern "C" {
 /* The most junctions and the most arcs of a net. */
 #define GRIEZMULD_MOST_JUNCTIONS 4096u
 #define GRIEZMULD_MOST_ARCS 16384u
+
+/* The stack, in bytes, to give a thread that calls griezmuld_route. */
+#define GRIEZMULD_ROUTE_STACK 2097152u
+
+/* What may be lent for a list of length 0: not NULL, aligned, never read and never written. */
+#define GRIEZMULD_EMPTY ((uint32_t *)sizeof(uint32_t))
+
+/* What a call returns. A comment says only what griezmuld_refusal_text does not. */
+enum griezmuld_refusal {
+    GRIEZMULD_ACCEPTED = 0,
+    GRIEZMULD_REFUSED_JUNCTION_COUNT = 1,
+    GRIEZMULD_REFUSED_ARC_LISTS = 2,
+    GRIEZMULD_REFUSED_ARC_END = 3,
+    GRIEZMULD_REFUSED_ORDER_ENTRY = 4,
+    GRIEZMULD_REFUSED_RANK_OR_FIRST_ROOM = 5,
+    GRIEZMULD_REFUSED_HEADS_ROOM = 6,
+    /* in the sense of document 01; one may have more edges than build would make, however many: its E is first[n] */
+    GRIEZMULD_REFUSED_NOT_A_HIERARCHY = 7,
+    GRIEZMULD_REFUSED_ARC_WITHOUT_EDGE = 8,
+    GRIEZMULD_REFUSED_ARC_COST = 9,
+    GRIEZMULD_REFUSED_COST_LISTS = 10,
+    GRIEZMULD_REFUSED_START_OR_TARGET = 11,
+    GRIEZMULD_REFUSED_ROUTE_ROOM = 12,
+    /* up and down were not customised for these costs */
+    GRIEZMULD_REFUSED_PIECE_FITS_NOTHING = 13,
+    /* by the program `route`, and by no call */
+    GRIEZMULD_REFUSED_TEXT = 14,
+    GRIEZMULD_REFUSED_DISTANCE_ROOM = 15,
+    /* never with up and down as customise left them */
+    GRIEZMULD_REFUSED_TOO_FAR = 16
+};
+
+/* What a call returned, in words. They stay as long as the program runs. */
+static inline const char *griezmuld_refusal_text(uint32_t number)
+{
+    switch (number) {
+    case GRIEZMULD_ACCEPTED: return "accepted";
+    case GRIEZMULD_REFUSED_JUNCTION_COUNT: return "n is 0 or over 4,096";
+    case GRIEZMULD_REFUSED_ARC_LISTS: return "the arc lists differ in length or exceed 16,384";
+    case GRIEZMULD_REFUSED_ARC_END: return "an arc end is n or more";
+    case GRIEZMULD_REFUSED_ORDER_ENTRY: return "an order entry is n or more, or was seen earlier";
+    case GRIEZMULD_REFUSED_RANK_OR_FIRST_ROOM: return "rank isn't n long, or first isn't n + 1 long";
+    case GRIEZMULD_REFUSED_HEADS_ROOM: return "row_heads is shorter than E";
+    case GRIEZMULD_REFUSED_NOT_A_HIERARCHY: return "rank, first and row_heads aren't a hierarchy for this order";
+    case GRIEZMULD_REFUSED_ARC_WITHOUT_EDGE: return "an arc with unequal ends has no edge";
+    case GRIEZMULD_REFUSED_ARC_COST: return "an arc cost is 0, or over 500,000 and not closed";
+    case GRIEZMULD_REFUSED_COST_LISTS: return "up or down is shorter than E";
+    case GRIEZMULD_REFUSED_START_OR_TARGET: return "from or to is n or more";
+    case GRIEZMULD_REFUSED_ROUTE_ROOM: return "an arc of the route has no place left";
+    case GRIEZMULD_REFUSED_PIECE_FITS_NOTHING: return "a piece of the route fits neither an arc nor two lower pieces";
+    case GRIEZMULD_REFUSED_TEXT: return "the program's text breaks its rules";
+    case GRIEZMULD_REFUSED_DISTANCE_ROOM: return "distances isn't n long";
+    case GRIEZMULD_REFUSED_TOO_FAR: return "a distance is 4,294,967,295 or more";
+    default: return "no refusal has this number";
+    }
+}
+
+/*
+ * The GRIEZMULD_VERSION of the archive's own header: where it differs from the one at hand, header and archive do not
+ * belong together.
+ */
+uint32_t griezmuld_version(void);
 
 /*
  * Builds the graph of shortcuts into rank, first and row_heads. It asks for no costs: closed arcs have their place in the

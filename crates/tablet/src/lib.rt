@@ -6,6 +6,7 @@ ghost use Rattle.rules.specs.Calls.{buildLeaves, customiseLeaves, distanceLeave
 ghost use Rattle.rules.specs.Graph.{graph};
 ghost use Rattle.rules.specs.Hierarchy.{edgeCosts};
 ghost use Rattle.rules.specs.declared.Direction.the-variants.{Up, Down};
+ghost use Rattle.tablet.specs.Version.{version};
 ghost use Rattle.tablet.specs.Numbers.{buildNumbers, buildTold, customiseNumbers, customiseTold, distanceNumbers, distanceToldOf, sweepNumbers, sweepTold, routeNumbers, routeTold};
 use griezmuld::build;
 use griezmuld::customise;
@@ -14,6 +15,17 @@ use griezmuld::route;
 use griezmuld::sweep_from;
 use griezmuld::sweep_to;
 use rules::Junction;
+
+// The release that this archive is of, as include/griezmuld.h writes it: major * 10000 + minor * 100 + patch.
+pub const VERSION: u32 = 10200;
+
+// The release, for a program that compares it with its header's.
+#[no_mangle]
+pub extern "C" fn griezmuld_version() -> u32
+    ensures { λ r. ⌜ r ≡ version ⌝ }
+{
+    VERSION
+}
 
 // Roads and order to the shortcut graph.
 #[no_mangle]

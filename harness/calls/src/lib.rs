@@ -1,22 +1,12 @@
-//! Safe wrappers over the library's C functions: slices in, enums out.
-//!
-//! The functions [`build`], [`customise`], [`distance`], [`sweep`] and [`route`] answer enums; `sweep` is two of the C
-//! functions. The module [`told`] has the same calls with the bare numbers, for the runs that compare every one of them.
+//! The calls that the runs run, with the bare numbers that they tell: the library's, by the package of examples/rust, or
+//! by the feature `standin` those of the stand-in.
 
-mod answers;
 #[cfg(not(feature = "standin"))]
-mod foreign;
-#[cfg(not(feature = "standin"))]
-pub mod told;
-
-pub use answers::{Built, Distance, Filled, Refusal, Route};
+pub use griezmuld::told;
 #[cfg(feature = "standin")]
 pub use standin as told;
 
-use slices::{Arcs, CostRoom, Costs, Graph, GraphRoom, Roads, Way};
-
-/// "CLOSED": the cost of a closed arc or edge; what fills a route list, and a distance list where no walk leads.
-pub const CLOSED: u32 = u32::MAX;
+pub use griezmuld::{Built, Distance, Filled, Refusal, Route};
 
 /// What was linked, in words.
 pub fn linked() -> String {
@@ -30,7 +20,7 @@ pub fn linked() -> String {
         }
     };
     #[cfg(not(feature = "standin"))]
-    env!("GRIEZMULD_LINKED").to_string()
+    format!("the library ({})", griezmuld::LINKED)
 }
 
 /// What each planted fault of the stand-in is, in words; nothing can be planted in the library.
@@ -43,35 +33,3 @@ pub fn faults() -> &'static [&'static str] {
 
 /// Whether the library itself was linked.
 pub const LIBRARY: bool = cfg!(not(feature = "standin"));
-
-/// Builds the shortcut graph into its room: `rank` is n long, `first` n + 1.
-pub fn build(arcs: Arcs, order: &[u32], room: GraphRoom) -> Built {
-    Built::from(told::build(arcs, order, room))
-}
-
-/// Puts costs onto the graph.
-pub fn customise(roads: Roads, graph: Graph, room: CostRoom) -> Filled {
-    Filled::from(told::customise(roads, graph, room))
-}
-
-/// The distance between two junctions.
-pub fn distance(graph: Graph, costs: Costs, from: u32, to: u32) -> Distance {
-    Distance::from(told::distance(graph, costs, from, to))
-}
-
-/// The distances from a junction to every one, or from every one to it.
-pub fn sweep(way: Way, graph: Graph, costs: Costs, end: u32, distances: &mut [u32]) -> Filled {
-    Filled::from(told::sweep(way, graph, costs, end, distances))
-}
-
-/// The route between two junctions.
-pub fn route(
-    roads: Roads,
-    graph: Graph,
-    costs: Costs,
-    from: u32,
-    to: u32,
-    route: &mut [u32],
-) -> Route {
-    Route::from(told::route(roads, graph, costs, from, to, route))
-}

@@ -31,6 +31,12 @@ impl Cell {
     }
 }
 
+/// The release that the linked archive is of, as [`crate::VERSION`] writes it.
+pub fn version() -> u32 {
+    // SAFETY: it gets nothing and writes nothing
+    unsafe { foreign::griezmuld_version() }
+}
+
 /// griezmuld_build
 pub fn build(arcs: Arcs, order: &[u32], room: GraphRoom) -> Told {
     let (mut place, mut edges) = (Cell::new(), Cell::new());

@@ -1,6 +1,7 @@
 //! The calls' answers as enums.
 
 use slices::Told;
+use std::fmt;
 
 /// Why a call refuses, with the place where that isn't always 0.
 #[derive(Clone, Copy, Debug, PartialEq, Eq)]
@@ -64,6 +65,67 @@ impl Refusal {
             16 => Refusal::TooFar(place),
             _ => Refusal::Unheard { number, place },
         }
+    }
+
+    /// The number that include/griezmuld.h gives it.
+    pub fn number(self) -> u32 {
+        match self {
+            Refusal::JunctionCount => 1,
+            Refusal::ArcLists => 2,
+            Refusal::ArcEnd(_) => 3,
+            Refusal::OrderEntry(_) => 4,
+            Refusal::RankOrFirstRoom => 5,
+            Refusal::HeadsRoom => 6,
+            Refusal::NotAHierarchy => 7,
+            Refusal::ArcWithoutEdge(_) => 8,
+            Refusal::ArcCost(_) => 9,
+            Refusal::CostLists => 10,
+            Refusal::StartOrTarget => 11,
+            Refusal::RouteRoom => 12,
+            Refusal::PieceFitsNothing => 13,
+            Refusal::DistanceRoom => 15,
+            Refusal::TooFar(_) => 16,
+            Refusal::Unheard { number, .. } => number,
+        }
+    }
+
+    /// The place of the fault: an arc, a position, a junction, or 0.
+    pub fn place(self) -> u64 {
+        match self {
+            Refusal::ArcEnd(place)
+            | Refusal::OrderEntry(place)
+            | Refusal::ArcWithoutEdge(place)
+            | Refusal::ArcCost(place)
+            | Refusal::TooFar(place)
+            | Refusal::Unheard { place, .. } => place,
+            _ => 0,
+        }
+    }
+}
+
+/// The words of griezmuld_refusal_text in include/griezmuld.h.
+impl fmt::Display for Refusal {
+    fn fmt(&self, words: &mut fmt::Formatter) -> fmt::Result {
+        words.write_str(match self {
+            Refusal::JunctionCount => "n is 0 or over 4,096",
+            Refusal::ArcLists => "the arc lists differ in length or exceed 16,384",
+            Refusal::ArcEnd(_) => "an arc end is n or more",
+            Refusal::OrderEntry(_) => "an order entry is n or more, or was seen earlier",
+            Refusal::RankOrFirstRoom => "rank isn't n long, or first isn't n + 1 long",
+            Refusal::HeadsRoom => "row_heads is shorter than E",
+            Refusal::NotAHierarchy => "rank, first and row_heads aren't a hierarchy for this order",
+            Refusal::ArcWithoutEdge(_) => "an arc with unequal ends has no edge",
+            Refusal::ArcCost(_) => "an arc cost is 0, or over 500,000 and not closed",
+            Refusal::CostLists => "up or down is shorter than E",
+            Refusal::StartOrTarget => "from or to is n or more",
+            Refusal::RouteRoom => "an arc of the route has no place left",
+            Refusal::PieceFitsNothing => {
+                "a piece of the route fits neither an arc nor two lower pieces"
+            }
+            Refusal::DistanceRoom => "distances isn't n long",
+            Refusal::TooFar(_) => "a distance is 4,294,967,295 or more",
+            Refusal::Unheard { .. } => "no refusal has this number",
+        })
     }
 }
 

@@ -1,5 +1,5 @@
-//! Finds the library's archive: the one that GRIEZMULD_ARCHIVE names, else target/staticlib/libtablet.a of the
-//! repository. Without one it stops, unless the feature `standin` asks for the stand-in by name.
+//! Finds the library's archive: the one that GRIEZMULD_ARCHIVE names by its full path, else target/staticlib/libtablet.a
+//! of the repository that this package stands in. Without one it stops.
 
 use std::env;
 use std::fs;
@@ -9,8 +9,13 @@ use std::process::exit;
 fn main() {
     println!("cargo:rerun-if-changed=build.rs");
     println!("cargo:rerun-if-env-changed=GRIEZMULD_ARCHIVE");
-    if env::var_os("CARGO_FEATURE_STANDIN").is_some() {
+    if env::var_os("CARGO_FEATURE_WITHOUT_CALLS").is_some() {
         return;
+    }
+    let processor = env::var("CARGO_CFG_TARGET_ARCH").expect("cargo names the processor");
+    if processor != "x86_64" {
+        eprintln!("The library's archive is code for x86-64 Linux; this is built for {processor}.");
+        exit(1);
     }
     let named = env::var_os("GRIEZMULD_ARCHIVE").map(PathBuf::from);
     let archive = named.unwrap_or_else(|| {
@@ -23,7 +28,7 @@ fn main() {
     match fs::copy(&archive, out.join("libtablet.a")) {
         Ok(bytes) => {
             let name = archive.file_name().unwrap_or_default().to_string_lossy();
-            println!("cargo:rustc-env=GRIEZMULD_LINKED=the library ({name}, {bytes} bytes)");
+            println!("cargo:rustc-env=GRIEZMULD_LINKED={name}, {bytes} bytes");
         }
         Err(error) => {
             eprintln!(
@@ -31,7 +36,6 @@ fn main() {
                 archive.display()
             );
             eprintln!("Make it with `rt staticlib tablet`, or name one in GRIEZMULD_ARCHIVE.");
-            eprintln!("To try the runs without the library, say `--features standin`.");
             exit(1);
         }
     }

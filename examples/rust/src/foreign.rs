@@ -4,6 +4,8 @@
 
 #[rustfmt::skip]
 extern "C" {
+    pub fn griezmuld_version() -> u32;
+
     pub fn griezmuld_build(
         tails: *const u32, tails_length: usize,
         heads: *const u32, heads_length: usize,
