@@ -6,6 +6,7 @@
 //! matrices for what is joined, a recursion for costs, every lower position tried for every label.
 
 pub mod calls;
+pub mod causes;
 pub mod customised;
 pub mod graph;
 pub mod hierarchy;

@@ -1,6 +1,7 @@
-//! "The program": what `route` prints for any input, and what the small program `lines` prints.
+//! "The program": what `route` prints for any input, and what the second program `bad_line` prints.
 
 use crate::calls::{build, customise, route, Costs, Roadmap, Rows, Told};
+use crate::causes;
 use crate::text::{read, Text};
 use crate::NO_WALK;
 
@@ -13,39 +14,41 @@ const ROUTE_ROOM: usize = 256;
 pub struct Printed {
     /// By `route`.
     pub route: String,
-    /// By `lines`.
+    /// By `bad_line`.
     pub bad_line: String,
 }
 
+/// A refusal of the whole text: its number and its place.
+type Refused = (u32, usize);
+
 /// What the two programs print for an input. The whole text is read first: refusal 14 comes before any other.
 pub fn printed(input: &[u8]) -> Printed {
-    match read(input) {
-        Ok(text) => Printed {
-            route: answer(&text).unwrap_or_else(refused),
+    let answer = read(input)
+        .map_err(|line| (14, line))
+        .and_then(|text| answer(&text));
+    match answer {
+        Ok(route) => Printed {
+            route,
             bad_line: "the text keeps the rules\n".to_string(),
         },
-        Err(line) => Printed {
-            route: refused(14),
-            bad_line: format!("line {line}\n"),
+        // "Any earlier refusal prints only `refused N`."
+        Err((number, place)) => Printed {
+            route: format!("refused {number}\n"),
+            bad_line: causes::told(input, number, place),
         },
     }
 }
 
-/// "Any earlier refusal prints only `refused N`."
-fn refused(number: u32) -> String {
-    format!("refused {number}\n")
-}
-
-/// A refusal's number as an error.
-fn accepted(told: Told) -> Result<(), u32> {
+/// A refusal as an error.
+fn accepted(told: Told) -> Result<(), Refused> {
     match told.number {
         0 => Ok(()),
-        number => Err(number),
+        number => Err((number, told.place as usize)),
     }
 }
 
-/// "First line: E. Then per question", or the number that build or customise refuses with.
-fn answer(text: &Text) -> Result<String, u32> {
+/// "First line: E. Then per question", or what build or customise refuses with.
+fn answer(text: &Text) -> Result<String, Refused> {
     let n = text.order.len();
     let (rank, first) = (vec![0; n], vec![0; n + 1]);
     let room = [0; HEADS_ROOM];

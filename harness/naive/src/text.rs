@@ -102,7 +102,7 @@ impl Reading {
 }
 
 /// "numbers of one to nine digits"
-fn number(word: &[u8]) -> Option<u32> {
+pub(crate) fn number(word: &[u8]) -> Option<u32> {
     let good = (1..=9).contains(&word.len()) && word.iter().all(u8::is_ascii_digit);
     let value = |word: &[u8]| {
         word.iter()
@@ -112,12 +112,12 @@ fn number(word: &[u8]) -> Option<u32> {
 }
 
 /// "junctions from 1"; "a junction 0 .. is 14"
-fn junction(word: &[u8]) -> Option<u32> {
+pub(crate) fn junction(word: &[u8]) -> Option<u32> {
     number(word)?.checked_sub(1)
 }
 
 /// "cost `-` is CLOSED"
-fn cost_of(word: &[u8]) -> Option<u32> {
+pub(crate) fn cost_of(word: &[u8]) -> Option<u32> {
     match word {
         b"-" => Some(CLOSED),
         digits => number(digits),

@@ -17,11 +17,17 @@ fn answered(text: &str, route: &str) {
 
 /// The text breaks the rules at this line.
 fn breaks(text: impl AsRef<[u8]>, line: usize) {
+    refused(text, 14, line);
+}
+
+/// The text is refused with this number, and this line is told.
+fn refused(text: impl AsRef<[u8]>, number: u32, line: usize) {
     let text = text.as_ref();
     let printed = printed(text);
     let start = String::from_utf8_lossy(&text[..text.len().min(200)]);
-    assert_eq!(printed.bad_line, format!("line {line}\n"), "{start:?}");
-    assert_eq!(printed.route, "refused 14\n", "{start:?}");
+    let told = format!("line {line}: refused {number}: ");
+    assert!(printed.bad_line.starts_with(&told), "{start:?}: {told}");
+    assert_eq!(printed.route, format!("refused {number}\n"), "{start:?}");
 }
 
 #[test]
@@ -46,7 +52,7 @@ fn n4_with_a_closed_arc_and_with_a_sixth_one() {
 
 #[test]
 fn a_late_fault_of_the_text_comes_before_other_refusals() {
-    answered("p sp 0 0\n", "refused 1\n");
+    refused("p sp 0 0\n", 1, 1);
     breaks("p sp 0 0\nq 0 1\n", 2);
     breaks("p sp 1 1\na 9 9 0\no 9\nq 1 1\nq\n", 5);
 }
@@ -127,38 +133,37 @@ fn a_number_has_one_to_nine_digits_and_nothing_else() {
 
 #[test]
 fn costs_of_up_to_nine_digits_are_well_written() {
+    let text = |cost: &str| format!("p sp 2 1\na 1 2 {cost}\no 1\no 2\nq 1 2\nq 2 1\n");
     for (cost, route) in [
-        ("0", "refused 9\n"),
-        ("000000000", "refused 9\n"),
         ("1", "edges 1\n1 2 1 1 1\n2 1 none\n"),
         ("500000", "edges 1\n1 2 500000 1 1\n2 1 none\n"),
-        ("500001", "refused 9\n"),
-        ("999999999", "refused 9\n"),
         ("-", "edges 1\n1 2 none\n2 1 none\n"),
     ] {
-        let text = format!("p sp 2 1\na 1 2 {cost}\no 1\no 2\nq 1 2\nq 2 1\n");
-        answered(&text, route);
+        answered(&text(cost), route);
+    }
+    for cost in ["0", "000000000", "500001", "999999999"] {
+        refused(text(cost), 9, 2);
     }
 }
 
 #[test]
 fn a_junction_over_n_is_well_written() {
     for far in ["3", "257", "999999999"] {
-        answered(&PAIR.replace("1 2 7", &format!("{far} 2 7")), "refused 3\n");
-        answered(&PAIR.replace("1 2 7", &format!("1 {far} 7")), "refused 3\n");
-        answered(&PAIR.replace("o 1", &format!("o {far}")), "refused 4\n");
+        refused(PAIR.replace("1 2 7", &format!("{far} 2 7")), 3, 2);
+        refused(PAIR.replace("1 2 7", &format!("1 {far} 7")), 3, 2);
+        refused(PAIR.replace("o 1", &format!("o {far}")), 4, 3);
         answered(
             &format!("{PAIR}q 1 {far}\nq {far} 1\nq {far} {far}\nq 1 2\n"),
             &format!("edges 1\n1 {far} refused 11\n{far} 1 refused 11\n{far} {far} refused 11\n1 2 7 1 1\n"),
         );
     }
-    answered(&PAIR.replace("o 1", "o 2"), "refused 4\n");
+    refused(PAIR.replace("o 1", "o 2"), 4, 4);
 }
 
 #[test]
 fn sizes_over_the_limits_are_faults_of_their_line() {
-    answered("p sp 0 0\nq 1 1\n", "refused 1\n");
-    answered("p sp 0 1\na 1 1 1\n", "refused 1\n");
+    refused("p sp 0 0\nq 1 1\n", 1, 1);
+    refused("p sp 0 1\na 1 1 1\n", 1, 1);
     breaks("p sp 257 0\n", 1);
     breaks("c\np sp 1 1025\n", 2);
     breaks("p sp 256 1024\n", 2);
@@ -277,8 +282,8 @@ fn star(roads_apart: usize) -> String {
 fn heads_room_is_4_096() {
     answered(&star(0), "edges 4095\n");
     answered(&(star(1) + "q 92 93\n"), "edges 4096\n92 93 5 1 91\n");
-    answered(&star(2), "refused 6\n");
-    answered(&star(2).replace("a 1 2 5", "a 1 2 0"), "refused 6\n");
+    refused(star(2), 6, 94);
+    refused(star(2).replace("a 1 2 5", "a 1 2 0"), 6, 94);
 }
 
 #[test]

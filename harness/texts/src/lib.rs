@@ -1,4 +1,4 @@
-//! Texts for the programs `route` and `lines`: stored ones, long ones, random ones, and what runs and compares them.
+//! Texts for the programs `route` and `bad_line`: stored ones, long ones, random ones, and what runs and compares them.
 
 pub mod compare;
 pub mod faults;

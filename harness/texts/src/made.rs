@@ -38,6 +38,10 @@ pub fn write(nets: &Path) -> Result<(), String> {
         (program.join("edges-4097.txt"), star(91, 2)),
         (program.join("edges-32640.txt"), star(MOST_JUNCTIONS, 0)),
         (program.join("refused-6-before-9.txt"), star_of_cost_0()),
+        (
+            program.join("refused-6-after-comments.txt"),
+            star_with_comments(),
+        ),
         (program.join("largest-net.txt"), largest_net()),
         (program.join("longest-answer.txt"), longest_answer()),
     ];
@@ -110,6 +114,13 @@ fn star_of_cost_0() -> Vec<String> {
     let mut lines = star(91, 2);
     lines[1] = "a 1 2 0".to_string();
     lines
+}
+
+/// The same with a comment before every 40th line.
+fn star_with_comments() -> Vec<String> {
+    let lines = star_of_cost_0();
+    let parts = lines.chunks(40).map(|part| part.join("\n"));
+    parts.map(|part| format!("c\n{part}")).collect()
 }
 
 /// 256 junctions, 1,024 arcs, 64 questions: a county, in which some arcs are listed again and some have equal ends.

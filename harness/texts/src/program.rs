@@ -1,4 +1,4 @@
-//! Runs the programs `route` and `lines`, and holds what they do to what they must do.
+//! Runs the programs `route` and `bad_line`, and holds what they do to what they must do.
 
 use naive::program::Printed;
 use std::fs::File;
@@ -175,7 +175,7 @@ pub fn shown(bytes: &[u8]) -> String {
 pub struct Programs {
     /// It prints the answers.
     pub route: Program,
-    /// It prints the line that breaks the rules.
+    /// It prints what is wrong with a text, and where.
     pub bad_line: Program,
 }
 

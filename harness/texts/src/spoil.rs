@@ -70,13 +70,14 @@ const LINES: [&str; 20] = [
 
 /// The text with one change.
 pub fn spoil(text: Vec<u8>, source: &mut Source) -> Vec<u8> {
-    match source.below(12) {
+    match source.below(13) {
         0 | 1 => byte_changed(text, source),
         2 | 3 => parting_changed(text, source),
         4..=6 => word_changed(text, source),
         7 | 8 => lines_changed(text, source),
         9 => size_changed(text, source),
         10 => cut_short(text, source),
+        11 => stretched(text, source),
         _ => grown(text, source),
     }
 }
@@ -114,6 +115,22 @@ fn word_changed(text: Vec<u8>, source: &mut Source) -> Vec<u8> {
         let word = source.below(line.len());
         line[word] = source.pick(&WORDS).as_bytes();
         lines[at] = line.join(&b' ');
+    }
+    [ended(&lines), rest].concat()
+}
+
+/// A line gets a byte order mark, or a byte of it comes again and again, round the 80 of a line that are shown.
+fn stretched(text: Vec<u8>, source: &mut Source) -> Vec<u8> {
+    let (mut lines, rest) = parted(&text);
+    if !lines.is_empty() {
+        let at = source.below(lines.len());
+        let line = &mut lines[at];
+        let place = source.below(line.len() + 1);
+        let more = source.between(78, 82).saturating_sub(line.len());
+        match line.get(place).copied() {
+            Some(byte) if place > 0 => drop(line.splice(place..place, vec![byte; more])),
+            _ => drop(line.splice(..0, *b"\xef\xbb\xbf")),
+        }
     }
     [ended(&lines), rest].concat()
 }

@@ -83,6 +83,15 @@ pub fn junction_places(words: &[&[u8]]) -> std::ops::Range<usize> {
 
 /// n as the first `p` line says it, if it does.
 pub fn said_n(lines: &[Vec<u8>]) -> Option<u32> {
+    said_size(lines, 2)
+}
+
+/// m as the first `p` line says it, if it does.
+pub fn said_m(lines: &[Vec<u8>]) -> Option<u32> {
+    said_size(lines, 3)
+}
+
+fn said_size(lines: &[Vec<u8>], at: usize) -> Option<u32> {
     let line = lines.iter().find(|line| is_kind(line, b"p"))?;
-    number(words(line).get(2)?)
+    number(words(line).get(at)?)
 }

@@ -1,4 +1,4 @@
-//! Holds the programs `route` and `lines` to document 01's section "The program": on the stored texts, on long ones, and
+//! Holds the programs `route` and `bad_line` to document 01's section "The program": on the stored texts, on long ones, and
 //! on random ones by the independent program.
 
 use cases::words::Words;
@@ -12,7 +12,7 @@ use texts::written::parted;
 use texts::{faults, long, stored};
 
 const USAGE: &str = "\
-program: holds the programs route and lines to the rules on many texts
+program: holds the programs route and bad_line to the rules on many texts
 
   --seed N        where the random texts come from (default: the time)
   --texts N       how many random texts (default: 1,500, or as many as there is time for in 18 seconds)

@@ -118,12 +118,14 @@ fn route_as(input: &[u8], change: impl FnOnce(String) -> String) -> Printed {
 /// The line told becomes another.
 fn line_as(input: &[u8], change: impl FnOnce(usize) -> usize) -> Printed {
     let said = printed(input);
-    match read(input) {
-        Ok(_) => said,
-        Err(line) => Printed {
-            bad_line: format!("line {}\n", change(line)),
+    let told = said.bad_line.strip_prefix("line ");
+    let parts = told.and_then(|told| told.split_once(':'));
+    match parts.and_then(|(line, rest)| Some((line.parse().ok()?, rest))) {
+        Some((line, rest)) => Printed {
+            bad_line: format!("line {}:{rest}", change(line)),
             ..said
         },
+        None => said,
     }
 }
 

@@ -2,6 +2,7 @@
 
 mod answering;
 mod reading;
+mod telling;
 
 use naive::program::Printed;
 
@@ -33,7 +34,10 @@ const RUNNING: [Fault; 3] = [
 
 /// Every fault.
 pub fn all() -> Vec<Fault> {
-    let printing = reading::FAULTS.iter().chain(&answering::FAULTS);
+    let printing = reading::FAULTS
+        .iter()
+        .chain(&answering::FAULTS)
+        .chain(&telling::FAULTS);
     let printing = printing.map(|&(name, prints)| (name, How::Prints(prints)));
     printing.chain(RUNNING).collect()
 }
