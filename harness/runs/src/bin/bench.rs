@@ -1,6 +1,7 @@
 //! The benchmark: the library beside plain safe Rust and Dijkstra, on the stored nets and on counties of growing size.
 
 use nets::stored;
+use runs::growth::{self, Kind};
 use runs::lists::Call;
 use runs::measure::{self, at, PerJob};
 use runs::ready::{Ready, Who, DAIRIES};
@@ -13,7 +14,7 @@ const USAGE: &str = "\
 bench: measures the calls beside plain safe Rust and Dijkstra
 
   --nets FOLDER   where the stored nets are
-  --write FILE    put the tables between the two marks of a file, too; only if the library itself is linked
+  --write FILE    put the tables between the two marks of a file, too, and draw growth.svg beside it; only if the library itself is linked
   --times-only    no instruction counts
   --quick         few samples, two nets";
 
@@ -109,6 +110,7 @@ fn bench(options: &Options) -> Result<(), String> {
     println!("{text}");
     if let Some(file) = &options.write {
         write(file, &text).map_err(|error| format!("{}: {error}", file.display()))?;
+        growth::draw(file, &file.with_file_name("growth.svg"))?;
     }
     Ok(())
 }
@@ -150,12 +152,9 @@ fn report(nets: &[Measured], counties: &[Measured]) -> String {
         table(&mut text, net);
     }
     text.push_str("## Growth\n\nSynthetic counties. Each cell: library / plain Rust = ratio.\n\n");
-    growth(&mut text, "Microseconds", counties, |county| {
-        Some(county.times)
-    });
-    growth(&mut text, "Thousands of instructions", counties, |county| {
-        county.counts.map(|counts| counts.map(|count| count / 1e3))
-    });
+    for kind in Kind::ALL {
+        growth_table(&mut text, kind, counties);
+    }
     let _ = write!(
         text,
         "## Sweeps\n\n\
@@ -163,12 +162,18 @@ fn report(nets: &[Measured], counties: &[Measured]) -> String {
          same junctions to all; the column after it is sweep_from's ratio to it. The last column is 64 distance calls of \
          the library.\n\n"
     );
-    let all = || nets.iter().chain(counties);
-    sweeps(&mut text, "Microseconds", all(), |net| Some(net.times));
-    sweeps(&mut text, "Thousands of instructions", all(), |net| {
-        net.counts.map(|counts| counts.map(|count| count / 1e3))
-    });
+    for kind in Kind::ALL {
+        sweeps(&mut text, kind, nets.iter().chain(counties));
+    }
     text
+}
+
+/// One kind of numbers of a net, if they were measured.
+fn numbers(net: &Measured, kind: Kind) -> Option<PerJob<f64>> {
+    match kind {
+        Kind::Microseconds => Some(net.times),
+        Kind::Instructions => net.counts.map(|counts| counts.map(|count| count / 1e3)),
+    }
 }
 
 fn table(text: &mut String, net: &Measured) {
@@ -216,21 +221,17 @@ fn table(text: &mut String, net: &Measured) {
 }
 
 /// A table of the counties by one kind of numbers, if they were measured.
-fn growth(
-    text: &mut String,
-    kind: &str,
-    counties: &[Measured],
-    numbers: impl Fn(&Measured) -> Option<PerJob<f64>>,
-) {
+fn growth_table(text: &mut String, kind: Kind, counties: &[Measured]) {
     // writing to a string never fails
     let _ = write!(
         text,
-        "{kind}:\n\n\
+        "{}:\n\n\
          | n | arcs | E | build | customise | distance | route | Dijkstra |\n\
-         |---:|---:|---:|---:|---:|---:|---:|---:|\n"
+         |---:|---:|---:|---:|---:|---:|---:|---:|\n",
+        kind.words()
     );
     for county in counties {
-        let Some(numbers) = numbers(county) else {
+        let Some(numbers) = numbers(county, kind) else {
             continue;
         };
         let Measured { n, arcs, edges, .. } = county;
@@ -250,21 +251,17 @@ fn growth(
 }
 
 /// A table of both sweeps by one kind of numbers, if they were measured.
-fn sweeps<'a>(
-    text: &mut String,
-    kind: &str,
-    nets: impl Iterator<Item = &'a Measured>,
-    numbers: impl Fn(&Measured) -> Option<PerJob<f64>>,
-) {
+fn sweeps<'a>(text: &mut String, kind: Kind, nets: impl Iterator<Item = &'a Measured>) {
     // writing to a string never fails
     let _ = write!(
         text,
-        "{kind}:\n\n\
+        "{}:\n\n\
          | net | n | E | sweep_from | sweep_to | Dijkstra | ratio | 64 distances |\n\
-         |---|---:|---:|---:|---:|---:|---:|---:|\n"
+         |---|---:|---:|---:|---:|---:|---:|---:|\n",
+        kind.words()
     );
     for net in nets {
-        let Some(numbers) = numbers(net) else {
+        let Some(numbers) = numbers(net, kind) else {
             continue;
         };
         let Measured { name, n, edges, .. } = net;
