@@ -1,7 +1,7 @@
-//! The examples of document 01, through the wrappers; and what request a of document 02 makes of them.
+//! The examples of document 01, by the answers' names; and what request a of document 02 makes of them.
 
 use crate::CLOSED;
-use calls::{build, customise, distance, route, sweep, Built, Distance, Filled, Refusal, Route};
+use calls::{told, Built, Distance, Filled, Refusal, Route};
 use slices::{Arcs, CostRoom, Costs, Graph, GraphRoom, Roads, Way};
 use std::mem::take;
 
@@ -39,7 +39,7 @@ impl Worked {
             first: &mut first,
             row_heads: &mut row_heads,
         };
-        let answer = build(worked.roads().arcs, order, room);
+        let answer = Built::from(told::build(worked.roads().arcs, order, room));
         (worked.rank, worked.first, worked.row_heads) = (rank, first, row_heads);
         (worked, answer)
     }
@@ -73,25 +73,26 @@ impl Worked {
             up: &mut up,
             down: &mut down,
         };
-        let answer = customise(self.roads(), self.graph(), room);
+        let answer = Filled::from(told::customise(self.roads(), self.graph(), room));
         (self.up, self.down) = (up, down);
         answer
     }
 
     fn distance(&self, from: u32, to: u32) -> Distance {
-        distance(self.graph(), self.held(), from, to)
+        Distance::from(told::distance(self.graph(), self.held(), from, to))
     }
 
     fn sweep(&self, way: Way, end: u32, room: usize) -> (Filled, Vec<u32>) {
         let mut list = vec![77; room];
-        let answer = sweep(way, self.graph(), self.held(), end, &mut list);
-        (answer, list)
+        let told = told::sweep(way, self.graph(), self.held(), end, &mut list);
+        (Filled::from(told), list)
     }
 
     fn route(&self, from: u32, to: u32, room: usize) -> (Route, Vec<u32>) {
         let mut list = vec![77; room];
         let (roads, graph, held) = (self.roads(), self.graph(), self.held());
-        (route(roads, graph, held, from, to, &mut list), list)
+        let told = told::route(roads, graph, held, from, to, &mut list);
+        (Route::from(told), list)
     }
 }
 

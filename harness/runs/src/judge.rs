@@ -16,8 +16,22 @@ use nets::source::Source;
 /// Up to so many junctions every pair is asked for.
 pub const EVERY_PAIR: usize = 60;
 
+/// How many pairs are asked for otherwise: some of a larger net, few of a very large one.
+pub fn usual_pairs(n: usize) -> usize {
+    if n > 2_000 {
+        10
+    } else {
+        40
+    }
+}
+
 /// Runs everything that a case asks for. An error says what went wrong.
 pub fn judge(case: &Case) -> Result<Tally, String> {
+    judge_asking(case, usual_pairs(case.n))
+}
+
+/// The same, with so many pairs.
+pub fn judge_asking(case: &Case, pairs: usize) -> Result<Tally, String> {
     let mut tally = Tally {
         nets: 1,
         ..Tally::default()
@@ -27,7 +41,7 @@ pub fn judge(case: &Case) -> Result<Tally, String> {
     lists.heads = case.heads.clone();
     lists.costs = case.costs.clone();
     customise(case, &mut lists, &mut tally)?;
-    question(case, &mut lists, &mut tally)?;
+    question(case, pairs, &mut lists, &mut tally)?;
     if case.later != case.costs && case.n <= EVERY_PAIR {
         // roads shut and roads open again, over lists that hold the costs of before
         compare_all(Call::Customise, &lists, &mut tally)?;
@@ -36,9 +50,9 @@ pub fn judge(case: &Case) -> Result<Tally, String> {
 }
 
 /// All questions: on costs as customised, on later arc costs, on damaged shortcut costs. Leaves the later costs.
-fn question(case: &Case, lists: &mut Lists, tally: &mut Tally) -> Result<(), String> {
+fn question(case: &Case, pairs: usize, lists: &mut Lists, tally: &mut Tally) -> Result<(), String> {
     let mut source = Source::new(case.seed);
-    let pairs = pairs(case.n, 40, &mut source);
+    let pairs = some_pairs(case.n, pairs, &mut source);
     let dairies = dairies(case.n, &pairs);
     let mut truth = Truth::of(lists);
     let mut questions = Questions {
@@ -75,12 +89,11 @@ fn every_pair(n: usize) -> impl Iterator<Item = (u32, u32)> {
     (0..n).flat_map(move |from| (0..n).map(move |to| (from, to)))
 }
 
-/// Every pair of a very small net, some of a larger one, few of a very large one.
-fn pairs(n: usize, most: usize, source: &mut Source) -> Vec<(u32, u32)> {
-    if n * n <= most {
+/// So many pairs, or every pair of a net that has no more.
+fn some_pairs(n: usize, count: usize, source: &mut Source) -> Vec<(u32, u32)> {
+    if n * n <= count {
         return every_pair(n).collect();
     }
-    let count = if n > 2_000 { most / 4 } else { most };
     (0..count)
         .map(|_| (source.below(n) as u32, source.below(n) as u32))
         .collect()

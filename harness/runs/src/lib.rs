@@ -1,8 +1,10 @@
 //! What the runs share: the calls under test, lists with guards, cases, judging, shrinking, reporting.
 
 pub mod bounds;
+pub mod caught;
 pub mod examples;
 pub mod garbage;
+pub mod growth;
 pub mod guarded;
 pub mod judge;
 pub mod lists;

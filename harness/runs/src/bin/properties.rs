@@ -6,10 +6,10 @@ use cases::words::Words;
 use cases::Case;
 use nets::source::Source;
 use nets::{order, stored, Net};
+use runs::caught::{caught, silence};
 use runs::garbage::{self, Handed};
 use runs::tally::{refusals, Tally};
 use runs::{bounds, examples, judge, shrink};
-use std::panic::{catch_unwind, AssertUnwindSafe};
 use std::path::PathBuf;
 use std::process::exit;
 use std::sync::{Arc, Mutex};
@@ -62,8 +62,7 @@ fn main() {
     });
     println!("linked: {}", calls::linked());
     println!("seed {}", options.seed);
-    // a panic is a failure like any other, and is told as one
-    std::panic::set_hook(Box::new(|_| ()));
+    silence();
     let mut run = Run {
         options,
         start: Instant::now(),
@@ -323,15 +322,4 @@ impl Run {
         );
         i32::from(failed != 0)
     }
-}
-
-/// A panic as an error.
-fn caught<T>(body: impl FnOnce() -> Result<T, String>) -> Result<T, String> {
-    catch_unwind(AssertUnwindSafe(body)).unwrap_or_else(|panic| {
-        let said = panic
-            .downcast_ref::<String>()
-            .map(String::as_str)
-            .or_else(|| panic.downcast_ref::<&str>().copied());
-        Err(format!("a panic: {}", said.unwrap_or("without words")))
-    })
 }
