@@ -4,7 +4,7 @@ use Rattle.rules.specs.Net.{rankList}
 use Rattle.rules.specs.Words.{tabulate}
 use Rattle.rules.specs.Hierarchy.{isHierarchy, linked, held}
 use Rattle.rules.specs.Sweep.{reach}
-use Rattle.rules.specs.Calls.{buildLeaves, customiseLeaves, distanceLeaves, sweepLeaves, routeLeaves}
+use Rattle.rules.specs.Calls.{buildLeaves, customiseLeaves, changeLeaves, distanceLeaves, sweepLeaves, routeLeaves}
 use Rattle.rules.specs.Examples.{AllHold, paper, ours, builtBy, customisedBy}
 
 pub paper-holds : AllHold paper
@@ -51,7 +51,7 @@ paper-holds = (
 )
 
 pub ours-hold : AllHold ours
-unfolding ours builtBy customisedBy buildLeaves customiseLeaves distanceLeaves sweepLeaves routeLeaves rankList isHierarchy reach linked held tabulate
+unfolding ours builtBy customisedBy buildLeaves customiseLeaves changeLeaves distanceLeaves sweepLeaves routeLeaves rankList isHierarchy reach linked held tabulate
 ours-hold = (
   (refl, refl),
   (
@@ -122,7 +122,7 @@ ours-hold = (
                                                                     refl,
                                                                     (
                                                                       refl,
-                                                                      ((refl, refl), ((refl, refl), ((refl, refl), (refl, (refl, (refl, (refl, (refl, tt)))))))),
+                                                                      ((refl, refl), ((refl, refl), ((refl, refl), (refl, (refl, (refl, (refl, (refl, (refl, (refl, (refl, (refl, (refl, (refl, (refl, (refl, (refl, tt))))))))))))))))),
                                                                     ),
                                                                   ),
                                                                 ),

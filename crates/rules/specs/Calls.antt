@@ -7,14 +7,15 @@ use lib.ListN.{length, getD, replicate}
 use Rattle.rules.specs.declared.Direction.{Direction}
 use Rattle.rules.specs.Words.{tabulate}
 use Rattle.rules.specs.Costs.{closed, none}
-use Rattle.rules.specs.Replies.{Reply, refused, edges, done, far, drive, noWalk}
-use Rattle.rules.specs.Net.{Net, net, size, rankList, roadBetween, arcBetween}
+use Rattle.rules.specs.Replies.{Reply, refused, edges, done, far, drive, noWalk, looked}
+use Rattle.rules.specs.Net.{Net, net, withCost, size, arcs, rankList, roadBetween, arcBetween}
 use Rattle.rules.specs.Graph.{Graph, graph, firstList, headsList, edgeCount}
 use Rattle.rules.specs.Hierarchy.{EdgeCosts, itsE, linked, held, along}
 use Rattle.rules.specs.Customised.{customised, costList, costLists}
+use Rattle.rules.specs.Changed.{newCost, lookedAt, changedLists}
 use Rattle.rules.specs.Distance.{distance}
 use Rattle.rules.specs.Route.{Event, met, trouble, driven, routeList}
-use Rattle.rules.specs.Refusals.{Verdict, passes, fails, firstFailure, check1, check2, check3, check4, check5, check6, check7, check8, check9, check10, check11, check15, check16}
+use Rattle.rules.specs.Refusals.{Verdict, passes, fails, firstFailure, check1, check2, check3, check4, check5, check6, check7, check8, check9, check10, check11, check15, check16, check17, checkNewCost}
 
 -- what is left: by the checks, refused or the rest
 abbrev pub unless : {A : Type 0} (checks : Verdict) (refusal : Reply → A) (rest : A) → A
@@ -92,6 +93,42 @@ unfoldable pub customiseLeaves : (N : Net) (rank : List ℕ) (G : Graph) (C : Ed
 unfolding customiseChecks shortcutCost costList
 customiseLeaves N rank G C =
     unless (customiseChecks N rank G C) (customiseLeft C) (customiseLeft (customisedCosts N G C) done)
+
+-- ---- change
+
+pub record ChangeLeaves : Type 0 where
+  pub reply : Reply
+  pub arcCosts : List ℕ
+  pub costs : EdgeCosts
+
+abbrev pub changeLeft : (arcCosts : List ℕ) (C : EdgeCosts) (reply : Reply) → ChangeLeaves
+changeLeft arcCosts C reply = record { reply = reply; arcCosts = arcCosts; costs = C }
+
+-- "Refusals: customise's on the lists as they stand, then 17 for an unlisted arc number, then 9 for the new cost (place the arc)"
+unfoldable pub changeChecks : (N : Net) (rank : List ℕ) (G : Graph) (C : EdgeCosts) (arc cost : ℕ) → Verdict
+unfolding customiseChecks check17 checkNewCost
+changeChecks N rank G C arc cost =
+    firstFailure (customiseChecks N rank G C ∷ check17 (arcs N) arc ∷ checkNewCost arc cost ∷ [])
+
+-- the cost from one position to another after an arc got a new cost, over the lists of a hierarchy and the costs that they hold
+unfoldable pub changedCost : (N : Net) (G : Graph) (C : EdgeCosts) (arc cost a b : ℕ) → ℕ
+unfolding newCost linked held roadBetween
+changedCost N G C arc cost = newCost (linked G) (roadBetween N) (roadBetween (withCost N arc cost)) (held G C)
+
+abbrev pub changedCosts : (N : Net) (G : Graph) (C : EdgeCosts) (arc cost : ℕ) → EdgeCosts
+changedCosts N G C arc cost = changedLists (size N) G (changedCost N G C arc cost) C
+
+-- "The reply tells how many lower triangles of reconsidered edges were looked at"
+unfoldable pub trianglesLookedAt : (N : Net) (G : Graph) (C : EdgeCosts) (arc cost : ℕ) → ℕ
+unfolding lookedAt linked held roadBetween
+trianglesLookedAt N G C arc cost = lookedAt (linked G) (roadBetween N) (roadBetween (withCost N arc cost)) (held G C) (size N)
+
+-- "the cost list and shortcut costs change together or not at all"
+unfoldable pub changeLeaves : (N : Net) (rank : List ℕ) (G : Graph) (C : EdgeCosts) (arc cost : ℕ) → ChangeLeaves
+unfolding changeChecks changedCost costList trianglesLookedAt
+changeLeaves N rank G C arc cost =
+    unless (changeChecks N rank G C arc cost) (changeLeft (N .costs) C)
+    (changeLeft (withCost N arc cost .costs) (changedCosts N G C arc cost) (looked (trianglesLookedAt N G C arc cost)))
 
 -- ---- distance
 

@@ -28,16 +28,16 @@ unfoldable pub customised : (joined : ℕ → ℕ → Bool) (road : ℕ → ℕ 
 unfolding costWithin
 customised joined road a b = costWithin joined road (suc (min a b)) a b
 
--- "held in two lists at the edge's place"; "Places past E become CLOSED": what stands at place k in the list of one direction
-abbrev pub costAt : (n : ℕ) (G : Graph) (cost : ℕ → ℕ → ℕ) (d : Direction) (k : ℕ) → ℕ
-costAt n G cost d k = cond (ltb k (getD (G .first) n 0)) (along d cost (rowOf n G k) (getD (G .heads) k 0)) closed
+-- "held in two lists at the edge's place": what stands at place k in the list of one direction, and past E what `past` has there
+abbrev pub costAt : (n : ℕ) (G : Graph) (cost : ℕ → ℕ → ℕ) (d : Direction) (past : ℕ → ℕ) (k : ℕ) → ℕ
+costAt n G cost d past k = cond (ltb k (getD (G .first) n 0)) (along d cost (rowOf n G k) (getD (G .heads) k 0)) (past k)
 
 -- that list, in a room
-unfoldable pub costList : (n : ℕ) (G : Graph) (cost : ℕ → ℕ → ℕ) (d : Direction) (room : ℕ) → List ℕ
+unfoldable pub costList : (n : ℕ) (G : Graph) (cost : ℕ → ℕ → ℕ) (d : Direction) (past : ℕ → ℕ) (room : ℕ) → List ℕ
 unfolding tabulate rowOf
-costList n G cost d room = tabulate (costAt n G cost d) 0 room
+costList n G cost d past room = tabulate (costAt n G cost d past) 0 room
 
--- the lists of both directions, each in its own room
+-- the lists of both directions, each in its own room: "Places past E become CLOSED"
 abbrev pub costLists : (n : ℕ) (G : Graph) (cost : ℕ → ℕ → ℕ) (room : EdgeCosts) → EdgeCosts
 costLists n G cost room =
-    edgeCosts (costList n G cost Up (length (room .up))) (costList n G cost Down (length (room .down)))
+    edgeCosts (costList n G cost Up (λ k. closed) (length (room .up))) (costList n G cost Down (λ k. closed) (length (room .down)))

@@ -9,12 +9,12 @@ use Rattle.rules.specs.declared.Direction.{Direction}
 use Rattle.rules.specs.declared.Direction.the-variants.{Up, Down}
 use Rattle.rules.specs.Words.{tabulate}
 use Rattle.rules.specs.Costs.{closed, sumOf, costOf}
-use Rattle.rules.specs.Replies.{refused, edges, done, far, drive, noWalk}
-use Rattle.rules.specs.Net.{Net, net, rankList}
+use Rattle.rules.specs.Replies.{refused, edges, done, far, drive, noWalk, looked}
+use Rattle.rules.specs.Net.{Net, net, withCost, rankList}
 use Rattle.rules.specs.Graph.{graph}
 use Rattle.rules.specs.Hierarchy.{edgeCosts, isHierarchy, linked, held, along}
 use Rattle.rules.specs.Sweep.{reach}
-use Rattle.rules.specs.Calls.{BuildLeaves, CustomiseLeaves, SweepLeaves, RouteLeaves, buildLeaves, customiseLeaves, distanceLeaves, orClosed, sweepLeaves, routeLeaves, buildLeft, customiseLeft, distanceLeft, sweepLeft, routeLeft}
+use Rattle.rules.specs.Calls.{BuildLeaves, CustomiseLeaves, ChangeLeaves, SweepLeaves, RouteLeaves, buildLeaves, customiseLeaves, changeLeaves, distanceLeaves, orClosed, sweepLeaves, routeLeaves, buildLeft, customiseLeft, changeLeft, distanceLeft, sweepLeft, routeLeft}
 
 -- what stands in the rooms before a call: no call may rely on it
 abbrev pub stale : ℕ → List ℕ
@@ -46,13 +46,16 @@ pub data Claim : Type 0 where
   customises : (N : Net) (rank first heads up down : List ℕ) (left : CustomiseLeaves) → Claim
   drivesOn : (N M : Net) (room from to places : ℕ) (left : RouteLeaves) → Claim
   lists : (N : Net) (room : ℕ) (d : Direction) (j : ℕ) (distances : List ℕ) → Claim
+  changesTo : (N M : Net) (room arc cost t : ℕ) → Claim
+  changes : (N : Net) (rank first heads up down : List ℕ) (arc cost : ℕ) (left : ChangeLeaves) → Claim
   sweeps : (order rank first heads up down : List ℕ) (d : Direction) (j places : ℕ) (left : SweepLeaves) → Claim
 
 -- the claims' meaning. E, first and heads; the up and the down list; from one junction to another a distance and the arcs of the route, by
 -- distance and by route, with a place more than the route needs; no walk; the sum of two costs;
 -- whether an order, a rank list, first and heads are a hierarchy; what build and customise leave in any rooms; what route leaves in a room,
 -- where one net was customised and another is asked; what a sweep lists, by the call and, the order being 0, 1, 2 .., by the document's
--- procedure; what a sweep leaves in a list of so many places, by any lists
+-- procedure; what a sweep leaves in a list of so many places, by any lists; that one net, customised, becomes another with its costs as customised
+-- when an arc gets a new cost, and how many triangles are told; what change leaves of any lists
 abbrev pub Holds : Claim → Type 0
 Holds (hasRows N room e first heads) = builtBy N room ≡ buildLeft (rankList (N .order)) (graph first heads) (edges e)
 Holds (hasCosts N room up down) = customisedBy N room ≡ customiseLeft (edgeCosts up down) done
@@ -83,6 +86,12 @@ Holds (lists N room d j distances) =
     let n = length (N .order) in
     (sweepLeaves (N .order) (b .rank) (b .rows) (c .costs) d j (stale n) ≡ sweepLeft distances done)
     × (tabulate (λ p. orClosed (reach n (linked (b .rows)) (along d (held (b .rows) (c .costs))) j p)) 0 n ≡ distances)
+Holds (changesTo N M room arc cost t) =
+    let b = builtBy N room in
+    let c = customisedBy N room in
+    changeLeaves N (b .rank) (b .rows) (c .costs) arc cost ≡ changeLeft (M .costs) (customisedBy M room .costs) (looked t)
+Holds (changes N rank first heads up down arc cost left) =
+    changeLeaves N rank (graph first heads) (edgeCosts up down) arc cost ≡ left
 Holds (sweeps order rank first heads up down d j places left) =
     sweepLeaves order rank (graph first heads) (edgeCosts up down) d j (stale places) ≡ left
 
@@ -115,6 +124,10 @@ star order = net (0 ∷ 0 ∷ 0 ∷ []) (1 ∷ 2 ∷ 3 ∷ []) (1 ∷ 1 ∷ 1 �
 -- N4 with another cost of arc 2
 abbrev pub n4With : ℕ → Net
 n4With cost = net (n4 .tails) (n4 .heads) (3 ∷ 4 ∷ cost ∷ 6 ∷ 20 ∷ []) (n4 .order)
+
+-- three junctions, and roads only between the first two, both ways
+abbrev pub between : Net
+between = net (1 ∷ 0 ∷ []) (0 ∷ 1 ∷ []) (5 ∷ 9 ∷ []) (0 ∷ 1 ∷ 2 ∷ [])
 
 -- one arc, 0 to 1, of a cost
 abbrev pub oneArc : ℕ → Net
@@ -220,4 +233,22 @@ ours =
     -- "then 15 if the distance list isn't n long", before 16, after 11
     ∷ sweeps (2 ∷ 0 ∷ 1 ∷ []) (1 ∷ 2 ∷ 0 ∷ []) (0 ∷ 1 ∷ 2 ∷ 2 ∷ []) (1 ∷ 2 ∷ []) (4294967294 ∷ 1 ∷ []) (closed ∷ closed ∷ []) Up 2 4 (sweepLeft (stale 4) (refused 15 0))
     ∷ sweeps (2 ∷ 0 ∷ 1 ∷ []) (1 ∷ 2 ∷ 0 ∷ []) (0 ∷ 1 ∷ 2 ∷ 2 ∷ []) (1 ∷ 2 ∷ []) (4294967294 ∷ 1 ∷ []) (closed ∷ closed ∷ []) Up 3 2 (sweepLeft (stale 2) (refused 11 0))
+    -- "A driver shuts a road": arc 2 closed makes P2's costs P7's, and opened again the other way round; of the edges above it one has a triangle
+    ∷ changesTo n4 n4Shut 6 2 closed 1
+    ∷ changesTo n4Shut n4 6 2 2 1
+    -- no cost in force changed: an arc that a later one hides, and a cost that stays
+    ∷ changesTo n4Bypass (withCost n4Bypass 4 25) 6 4 25 0
+    ∷ changesTo n4 n4 6 2 2 0
+    -- lists that nobody customised: both costs "by document 01's rule from those then standing, a sum of CLOSED or more being CLOSED", the costs
+    -- between 0 and 2 and the places past E left alone
+    ∷ changes between (0 ∷ 1 ∷ 2 ∷ []) (0 ∷ 2 ∷ 3 ∷ 3 ∷ []) (1 ∷ 2 ∷ 2 ∷ []) (6 ∷ 4294967290 ∷ 8 ∷ 77 ∷ []) (5 ∷ 1 ∷ 2 ∷ 78 ∷ []) 0 7
+    (changeLeft (7 ∷ 9 ∷ []) (edgeCosts (9 ∷ 4294967290 ∷ closed ∷ 77 ∷ []) (7 ∷ 1 ∷ 10 ∷ 78 ∷ [])) (looked 1))
+    -- where both costs of the arc's edge stand so already, "an edge whose up or down cost changed" is none, and the one above it stays
+    ∷ changes between (0 ∷ 1 ∷ 2 ∷ []) (0 ∷ 2 ∷ 3 ∷ 3 ∷ []) (1 ∷ 2 ∷ 2 ∷ []) (9 ∷ 4294967290 ∷ 8 ∷ []) (7 ∷ 1 ∷ 2 ∷ []) 0 7
+    (changeLeft (7 ∷ 9 ∷ []) (edgeCosts (9 ∷ 4294967290 ∷ 8 ∷ []) (7 ∷ 1 ∷ 2 ∷ [])) (looked 0))
+    -- "customise's on the lists as they stand, then 17 for an unlisted arc number, then 9 for the new cost (place the arc)"
+    ∷ changes (oneArc 0) (0 ∷ 1 ∷ []) (0 ∷ 1 ∷ 1 ∷ []) (1 ∷ []) (7 ∷ []) (8 ∷ []) 1 0 (changeLeft (0 ∷ []) (edgeCosts (7 ∷ []) (8 ∷ [])) (refused 9 0))
+    ∷ changes (oneArc 5) (0 ∷ 1 ∷ []) (0 ∷ 1 ∷ 1 ∷ []) (1 ∷ []) (7 ∷ []) (8 ∷ []) 1 0 (changeLeft (5 ∷ []) (edgeCosts (7 ∷ []) (8 ∷ [])) (refused 17 0))
+    ∷ changes between (0 ∷ 1 ∷ 2 ∷ []) (0 ∷ 2 ∷ 3 ∷ 3 ∷ []) (1 ∷ 2 ∷ 2 ∷ []) (stale 3) (stale 3) 1 500001
+    (changeLeft (5 ∷ 9 ∷ []) (edgeCosts (stale 3) (stale 3)) (refused 9 1))
     ∷ []

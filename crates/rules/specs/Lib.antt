@@ -5,6 +5,7 @@ pub mod Net
 pub mod Graph
 pub mod Hierarchy
 pub mod Customised
+pub mod Changed
 pub mod Distance
 pub mod Sweep
 pub mod Route

@@ -3,7 +3,7 @@ use Prim.Native.Nat.{ℕ}
 use mathlib.Core.Bool.{Bool, cond, not, _&&_}
 use mathlib.Core.List.{List}
 use lib.Dec.{eqb, ltb}
-use lib.ListN.{length, getD}
+use lib.ListN.{length, getD, set}
 use Rattle.rules.specs.Words.{some, lowest, tabulate}
 use Rattle.rules.specs.Costs.{closed}
 
@@ -17,6 +17,10 @@ pub record Net : Type 0 where
 
 abbrev pub net : (tails heads costs order : List ℕ) → Net
 net tails heads costs order = record { tails = tails; heads = heads; costs = costs; order = order }
+
+-- "a change of one arc's cost": the net with another cost of one arc
+abbrev pub withCost : (N : Net) (arc cost : ℕ) → Net
+withCost N arc cost = net (N .tails) (N .heads) (set (N .costs) arc cost) (N .order)
 
 -- "n is its length"
 abbrev pub size : Net → ℕ

@@ -108,3 +108,11 @@ tooFar distance = leb closed distance && not (eqb distance none)
 unfoldable pub check16 : (n : ℕ) (distanceOf : ℕ → ℕ) → Verdict
 unfolding lowest
 check16 n distanceOf = failsAt 16 (λ j. tooFar (distanceOf j)) n
+
+-- 17: "an unlisted arc number"
+unfoldable pub check17 : (arcs arc : ℕ) → Verdict
+check17 arcs arc = failsIf 17 (leb arcs arc)
+
+-- "9 for the new cost (place the arc)"
+unfoldable pub checkNewCost : (arc cost : ℕ) → Verdict
+checkNewCost arc cost = cond (unlawful cost) (fails 9 arc) passes

@@ -1,4 +1,4 @@
--- The words that the paper's sentences are built from: some, each, the lowest, the least, those, one by one.
+-- The words that the paper's sentences are built from: some, each, the lowest, the least, the total, how many, those, one by one.
 -- Each computes. Assumes nothing.
 use Prim.Native.Nat.{ℕ, zero, suc, _+_, min}
 use mathlib.Core.Bool.{Bool, true, false, cond, _&&_, _||_}
@@ -24,6 +24,16 @@ lowest passes i (suc k) = cond (passes i) i (lowest passes (suc i) k)
 unfoldable pub least : (f : ℕ → ℕ) (top n : ℕ) → ℕ
 least f top zero = top
 least f top (suc n) = min (least f top n) (f n)
+
+-- what f gives for the numbers below n, added up
+unfoldable pub total : (f : ℕ → ℕ) (n : ℕ) → ℕ
+total f zero = 0
+total f (suc n) = total f n + f n
+
+-- how many numbers below n pass
+unfoldable pub howMany : (passes : ℕ → Bool) (n : ℕ) → ℕ
+unfolding total
+howMany passes n = total (λ i. cond (passes i) 1 0) n
 
 -- those of the k numbers from i on that pass, in ascending order
 unfoldable pub those : (passes : ℕ → Bool) (i k : ℕ) → List ℕ

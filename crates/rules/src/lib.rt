@@ -5,7 +5,7 @@ ghost use Prim.Native.Nat.{_+_, _<_};
 ghost use mathlib.Core.Path.{_≡_};
 ghost use Rattle.rules.specs.Costs.{closed, none, sumOf, leastOf, addUp, labelOver};
 ghost use Rattle.rules.specs.Hierarchy.{opposite};
-ghost use Rattle.rules.specs.Replies.{refusalNumber, refusalPlace, buildReply, fillReply, distanceReply, routeReply, numberTold, placeTold, edgesTold, distanceTold, arcsTold};
+ghost use Rattle.rules.specs.Replies.{refusalNumber, refusalPlace, buildReply, fillReply, changeReply, distanceReply, routeReply, numberTold, placeTold, edgesTold, distanceTold, arcsTold, trianglesTold};
 
 // A number of a list as an index.
 pub fn wide(x: u32) -> usize
@@ -111,7 +111,7 @@ pub enum Found {
     Nothing,
 }
 
-// Why a call refuses: a case for each of the papers' numbers 1 to 16, with the place where that is not always 0.
+// Why a call refuses: a case for each of the papers' numbers 1 to 17, with the place where that is not always 0.
 pub enum Refusal {
     JunctionCount,
     ArcLists,
@@ -129,6 +129,7 @@ pub enum Refusal {
     Text(usize),
     DistanceRoom,
     TooFar(usize),
+    ArcNumber,
 }
 
 impl Refusal {
@@ -153,6 +154,7 @@ impl Refusal {
             Refusal::Text(_) => 14,
             Refusal::DistanceRoom => 15,
             Refusal::TooFar(_) => 16,
+            Refusal::ArcNumber => 17,
         }
     }
 
@@ -177,6 +179,7 @@ impl Refusal {
             Refusal::RouteRoom => 0,
             Refusal::PieceFitsNothing => 0,
             Refusal::DistanceRoom => 0,
+            Refusal::ArcNumber => 0,
         }
     }
 }
@@ -190,6 +193,12 @@ pub enum BuildAnswer {
 // What a call answers that only fills lists: customise and the sweeps.
 pub enum FillAnswer {
     Done,
+    Refused(Refusal),
+}
+
+// What change answers: how many lower triangles of reconsidered edges were looked at.
+pub enum ChangeAnswer {
+    Triangles(u64),
     Refused(Refusal),
 }
 
@@ -257,6 +266,38 @@ impl FillAnswer {
         match self {
             FillAnswer::Done => 0,
             FillAnswer::Refused(refusal) => refusal.place(),
+        }
+    }
+}
+
+impl ChangeAnswer {
+    // The paper's number of the refusal, 0 when accepted.
+    pub fn number(self) -> u32
+        ensures { λ r. ⌜ r ≡ numberTold (changeReply self) ⌝ }
+    {
+        match self {
+            ChangeAnswer::Triangles(_) => 0,
+            ChangeAnswer::Refused(refusal) => refusal.number(),
+        }
+    }
+
+    // The paper's place of the refusal, 0 when accepted.
+    pub fn place(self) -> usize
+        ensures { λ r. ⌜ r ≡ placeTold (changeReply self) ⌝ }
+    {
+        match self {
+            ChangeAnswer::Triangles(_) => 0,
+            ChangeAnswer::Refused(refusal) => refusal.place(),
+        }
+    }
+
+    // The lower triangles that were looked at, 0 after a refusal.
+    pub fn triangles(self) -> u64
+        ensures { λ r. ⌜ r ≡ trianglesTold (changeReply self) ⌝ }
+    {
+        match self {
+            ChangeAnswer::Triangles(t) => t,
+            ChangeAnswer::Refused(_) => 0,
         }
     }
 }
