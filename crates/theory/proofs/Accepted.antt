@@ -6,18 +6,19 @@ use mathlib.Core.Bool.{Bool, false, not, _&&_, _||_}
 use mathlib.Core.List.{List, [], _∷_}
 use native.Mathlib.Omega.{arith}
 use lib.Dec.{T, eqb, ltb, leb}
-use lib.ListN.{length, getD}
+use lib.ListN.{length, getD, set, length-set}
+use lib.Seq.{getD-set-same, getD-set-other}
 use borrow.Author.Tests.{ltb-false, le-ltb, leb-false, lt-leb, eqb-false, eq-eqb, ne-eqb}
 use Rattle.rules.specs.Costs.{closed, greatest, none}
 use Rattle.rules.specs.Net.{Net, size, arcs}
 use Rattle.rules.specs.Hierarchy.{EdgeCosts, isHierarchy, itsE, linked}
-use Rattle.rules.specs.Refusals.{passes, fails, firstFailure, differ, unlawful, tooFar, check1, check2, check3, check4, check5, check7, check8, check9, check10, check11, check15, check16}
-use Rattle.rules.specs.Calls.{customiseChecks, distanceChecks}
+use Rattle.rules.specs.Refusals.{passes, fails, firstFailure, differ, unlawful, tooFar, check1, check2, check3, check4, check5, check7, check8, check9, check10, check11, check15, check16, check17, checkNewCost}
+use Rattle.rules.specs.Calls.{customiseChecks, changeChecks, distanceChecks}
 use Rattle.theory.proofs.Orders.{ordered, inverse}
 use Rattle.theory.proofs.Rows.{rows, ranked, count-is, lists-of}
-use Rattle.theory.proofs.Verdicts.{first-passes, failsIf-e, failsAt-e, failsAt-i}
+use Rattle.theory.proofs.Verdicts.{passes-fails, first-passes, failsIf-e, failsAt-e, failsAt-i}
 use Rattle.theory.proofs.CheckGroups.{distance-last}
-use Rattle.theory.proofs.Words.{either, split, true-holds, holds-true, true-false, or-l, or-r, and-i, and-l, and-r, neb-i, neb-e, eqb-e, leb-i, leb-e}
+use Rattle.theory.proofs.Words.{either, split, same-or-not, true-holds, holds-true, true-false, or-l, or-r, and-i, and-l, and-r, neb-i, neb-e, eqb-e, leb-i, leb-e}
 use Rattle.rules.specs.Graph.{Graph}
 use Rattle.theory.specs.Accepted.{LawfulCost, Accepted, Asked}
 
@@ -108,12 +109,10 @@ passes8 tails heads rank G e i h n =
     absurd (f (and-i (apart i) (not (joined i)) (neb-i n)
     (subst (λ x. T (not x)) (sym d) tt))))
 
-pub passes9 : (costs : List ℕ) → check9 costs ≡ passes → (i : ℕ) → i < length costs → LawfulCost (getD costs i 0)
-unfolding check9
-passes9 costs e i h =
-    let c = getD costs i 0 in
+-- a cost that is not unlawful
+lawful-cost : (c : ℕ) → (T (unlawful c) → ⊥) → LawfulCost c
+lawful-cost c f =
     let dear = ltb greatest c && not (eqb c closed) in
-    let f = failsAt-e 9 (λ i. eqb (getD costs i 0) 0 || (ltb greatest (getD costs i 0) && not (eqb (getD costs i 0) closed))) (length costs) i e h in
     record {
       least-one =
           either (split (eqb c 0)) (λ d. absurd (not-or-l (eqb c 0) dear f (true-holds (eqb c 0) d)))
@@ -124,6 +123,11 @@ passes9 costs e i h =
           inr (not-ltb greatest c
           (λ g. not-or-r (eqb c 0) dear f (and-i (ltb greatest c) (not (eqb c closed)) g (neb-i (eqb-false c closed d))))));
     }
+
+pub passes9 : (costs : List ℕ) → check9 costs ≡ passes → (i : ℕ) → i < length costs → LawfulCost (getD costs i 0)
+unfolding check9
+passes9 costs e i h =
+    lawful-cost (getD costs i 0) (failsAt-e 9 (λ i. unlawful (getD costs i 0)) (length costs) i e h)
 
 pub lawful-passes : (costs : List ℕ) → ((i : ℕ) → i < length costs → unlawful (getD costs i 0) ≡ false) → check9 costs ≡ passes
 unfolding check9
@@ -181,6 +185,29 @@ near-passes n f h =
     either (h j l)
     (λ e. neb-e (and-r (leb closed (f j)) (not (eqb (f j) none)) t) e)
     (λ b. omega (arith, leb-e closed (f j) (and-l (leb closed (f j)) (not (eqb (f j) none)) t))))
+
+pub passes17 : (m arc : ℕ) → check17 m arc ≡ passes → arc < m
+unfolding check17
+passes17 m arc e = not-leb m arc (failsIf-e 17 (leb m arc) e)
+
+-- a new cost that passes is lawful
+pub passes-new : (arc cost : ℕ) → checkNewCost arc cost ≡ passes → unlawful cost ≡ false
+unfolding checkNewCost
+passes-new arc cost e =
+    either (split (unlawful cost))
+    (λ t. let x : fails 9 arc ≡ passes = rw t at e in passes-fails (sym x))
+    (λ t. t)
+
+-- and a list in which it stands at one place, and which passed before, passes
+pub new-cost-passes : (costs : List ℕ) (arc cost : ℕ) → check9 costs ≡ passes → unlawful cost ≡ false → check9 (set costs arc cost) ≡ passes
+unfolding check9
+new-cost-passes costs arc cost e d =
+    failsAt-i 9 (λ i. unlawful (getD (set costs arc cost) i 0)) (length (set costs arc cost))
+    (λ i l t.
+    let h : i < length costs = omega (arith, length-set costs arc cost) in
+    either (same-or-not i arc)
+    (λ s. true-false (sym (holds-true (unlawful cost) (rw (s, getD-set-same costs arc cost 0 (omega arith)) at t)) ∙ d))
+    (λ s. failsAt-e 9 (λ i. unlawful (getD costs i 0)) (length costs) i e h (rw (getD-set-other costs arc i cost 0 s) at t)))
 
 -- ---- together
 
@@ -274,3 +301,19 @@ others-pass order rank G C a b from to e h g =
     let before = firstFailure (check1 n ∷ check4 order ∷ check7 order rank G ∷ check10 (itsE order G) C ∷ []) in
     let p = first-passes before (check11 n a b ∷ []) (sym (distance-last order rank G C a b) ∙ e) in
     distance-last order rank G C from to ∙ rw (p .0, in-range-passes n from to h g) refl
+
+-- all that change's checks establish: customise's, that the arc is listed, and that its new cost is lawful
+pub change-passed : (N : Net) (rank : List ℕ) (G : Graph) (C : EdgeCosts) (arc cost : ℕ) → changeChecks N rank G C arc cost ≡ passes
+    → (customiseChecks N rank G C ≡ passes) × (arc < arcs N) × (unlawful cost ≡ false)
+unfolding changeChecks
+change-passed N rank G C arc cost e =
+    let (a, more) = first-passes (customiseChecks N rank G C) (check17 (arcs N) arc ∷ checkNewCost arc cost ∷ []) e in
+    let (b, last) = first-passes (check17 (arcs N) arc) (checkNewCost arc cost ∷ []) more in
+    (a, passes17 (arcs N) arc b, passes-new arc cost (first-passes (checkNewCost arc cost) [] last .0))
+
+-- as the `requires` of the work behind them
+pub change-accepted : (N : Net) (rank : List ℕ) (G : Graph) (C : EdgeCosts) (arc cost : ℕ) → changeChecks N rank G C arc cost ≡ passes
+    → Accepted N rank G C × (arc < arcs N) × LawfulCost cost
+change-accepted N rank G C arc cost e =
+    let (a, b, c) = change-passed N rank G C arc cost e in
+    (accepted N rank G C a, b, lawful-cost cost (λ t. true-false (sym (holds-true (unlawful cost) t) ∙ c)))

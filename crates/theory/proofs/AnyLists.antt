@@ -158,13 +158,13 @@ satisfied-once N rank G C A S =
     let f = shortcutCost N G in
     let is : (a b : ℕ) → T (joined a b) → cost a b ≡ f a b = customised-only joined (roadBetween N) (linked-turn G) cost (S .equation) in
     ap₂ edgeCosts
-    (list-of R f Up (length (C .up)) (C .up) refl
+    (list-of R f Up (λ i. closed) (length (C .up)) (C .up) refl
     (λ p k l r.
     let y = getD (G .heads) k 0 in
     let j = linked-i R p k y l r refl in
     held-up R C p k l r (long p k (C .up) l r (A .up-long)) ∙ is p y j)
     (S .up-past))
-    (list-of R f Down (length (C .down)) (C .down) refl
+    (list-of R f Down (λ i. closed) (length (C .down)) (C .down) refl
     (λ p k l r.
     let y = getD (G .heads) k 0 in
     let j = linked-i R p k y l r refl in
@@ -188,6 +188,6 @@ satisfied N rank G C A =
           is a b j ∙ customised-is joined (roadBetween N) a b
           ∙ least-same (over joined f a b) (over joined cost a b) (roadBetween N a b) (min a b)
           (λ z l. over-same joined f cost a b z (λ u v. (sym (is a z (linked-turn G z a u)), sym (is z b v))));
-      up-past = list-past (size N) G f Up (length (C .up));
-      down-past = list-past (size N) G f Down (length (C .down));
+      up-past = list-past (size N) G f Up (λ i. closed) (length (C .up));
+      down-past = list-past (size N) G f Down (λ i. closed) (length (C .down));
     }

@@ -18,26 +18,26 @@ use Rattle.theory.specs.Rows.{InRow, Rows}
 use Rattle.theory.proofs.Rows.{in-heads, linked-e, linked-two, linked-turn, place-is, row-is, in-row}
 use Rattle.rules.specs.Graph.{Graph}
 
--- a list of the definition is as long as its room, and CLOSED past E
-pub length-list : (n : ℕ) (G : Graph) (f : ℕ → ℕ → ℕ) (d : Direction) (room : ℕ) → length (costList n G f d room) ≡ room
+-- a list of the definition is as long as its room, and past E it has what `past` says
+pub length-list : (n : ℕ) (G : Graph) (f : ℕ → ℕ → ℕ) (d : Direction) (past : ℕ → ℕ) (room : ℕ) → length (costList n G f d past room) ≡ room
 unfolding costList
-length-list n G f d room = length-tabulate (costAt n G f d) 0 room
+length-list n G f d past room = length-tabulate (costAt n G f d past) 0 room
 
-pub list-past : (n : ℕ) (G : Graph) (f : ℕ → ℕ → ℕ) (d : Direction) (room k : ℕ) → getD (G .first) n 0 ≤ k → k < length (costList n G f d room)
-    → getD (costList n G f d room) k 0 ≡ closed
+pub list-past : (n : ℕ) (G : Graph) (f : ℕ → ℕ → ℕ) (d : Direction) (past : ℕ → ℕ) (room k : ℕ) → getD (G .first) n 0 ≤ k → k < length (costList n G f d past room)
+    → getD (costList n G f d past room) k 0 ≡ past k
 unfolding costList
-list-past n G f d room k h l =
-    tabulate-at (costAt n G f d) room k 0 (omega (arith, length-list n G f d room))
+list-past n G f d past room k h l =
+    tabulate-at (costAt n G f d past) room k 0 (omega (arith, length-list n G f d past room))
     ∙ rw (le-ltb k (getD (G .first) n 0) (omega arith)) refl
 
 module _ {n : ℕ} {G : Graph} (R : Rows n G) (f : ℕ → ℕ → ℕ) where
   -- the list of the definition has each cost at its edge's place
-  pub list-at : (d : Direction) (room p k : ℕ) → getD (G .first) n 0 ≤ room → p < n → InRow G p k
-      → getD (costList n G f d room) k closed ≡ along d f p (getD (G .heads) k 0)
+  pub list-at : (d : Direction) (past : ℕ → ℕ) (room p k : ℕ) → getD (G .first) n 0 ≤ room → p < n → InRow G p k
+      → getD (costList n G f d past room) k closed ≡ along d f p (getD (G .heads) k 0)
   unfolding costList
-  list-at d room p k b l r =
+  list-at d past room p k b l r =
       let h : k < getD (G .first) n 0 = in-heads R p k l r .0 in
-      tabulate-at (costAt n G f d) room k closed (omega arith)
+      tabulate-at (costAt n G f d past) room k closed (omega arith)
       ∙ rw (lt-ltb k (getD (G .first) n 0) h, row-is R p k l r) refl
 
   -- what customising writes is read back
@@ -49,22 +49,22 @@ module _ {n : ℕ} {G : Graph} (R : Rows n G) (f : ℕ → ℕ → ℕ) where
       either (split (ltb a b))
       (λ e.
       let (k, r, h) = linked-e R a b t (ltb-true a b e) in
-      rw (e, place-is R a k b la r h) (list-at Up (length (room .up)) a k u la r ∙ ap (f a) h))
+      rw (e, place-is R a k b la r h) (list-at Up (λ i. closed) (length (room .up)) a k u la r ∙ ap (f a) h))
       (λ e.
       let (k, r, h) = linked-e R b a (linked-turn G a b t) (omega (arith, ltb-false a b e)) in
-      rw (e, place-is R b k a lb r h) (list-at Down (length (room .down)) b k v lb r ∙ ap (λ y. f y b) h))
+      rw (e, place-is R b k a lb r h) (list-at Down (λ i. closed) (length (room .down)) b k v lb r ∙ ap (λ y. f y b) h))
 
-  -- a list with each cost at its edge's place, and CLOSED past E, is the list of the definition
-  pub list-of : (d : Direction) (room : ℕ) (l : List ℕ) → length l ≡ room
+  -- a list with each cost at its edge's place, and past E what `past` says, is the list of the definition
+  pub list-of : (d : Direction) (past : ℕ → ℕ) (room : ℕ) (l : List ℕ) → length l ≡ room
       → ((p k : ℕ) → p < n → InRow G p k → getD l k 0 ≡ along d f p (getD (G .heads) k 0))
-      → ((k : ℕ) → getD (G .first) n 0 ≤ k → k < room → getD l k 0 ≡ closed)
-      → l ≡ costList n G f d room
+      → ((k : ℕ) → getD (G .first) n 0 ≤ k → k < room → getD l k 0 ≡ past k)
+      → l ≡ costList n G f d past room
   unfolding costList
-  list-of d room l e there past =
-      is-tabulate (costAt n G f d) l placed ∙ ap (λ m. tabulate (costAt n G f d) 0 m) e
+  list-of d past room l e there rest =
+      is-tabulate (costAt n G f d past) l placed ∙ ap (λ m. tabulate (costAt n G f d past) 0 m) e
     where
-      placed : (k : ℕ) → k < length l → getD l k 0 ≡ costAt n G f d k
+      placed : (k : ℕ) → k < length l → getD l k 0 ≡ costAt n G f d past k
       placed k h =
           either (split (ltb k (getD (G .first) n 0)))
           (λ s. let (b, r) = in-row R k (ltb-true k (getD (G .first) n 0) s) in rw s (there (rowOf n G k) k b r))
-          (λ s. rw s (past k (ltb-false k (getD (G .first) n 0) s) (omega arith)))
+          (λ s. rw s (rest k (ltb-false k (getD (G .first) n 0) s) (omega arith)))

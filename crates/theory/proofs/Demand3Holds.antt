@@ -81,8 +81,8 @@ module _ {N : Net} {rank : List ℕ} {G : Graph} {C₀ C : EdgeCosts} (S : Stand
   lists-pass : check10 (itsE (N .order) G) C ≡ passes
   lists-pass =
       let f = shortcutCost N G in
-      let u = ap (λ (c : EdgeCosts). length (c .up)) (S .lists) ∙ length-list (size N) G f Up (length (C₀ .up)) in
-      let d = ap (λ (c : EdgeCosts). length (c .down)) (S .lists) ∙ length-list (size N) G f Down (length (C₀ .down)) in
+      let u = ap (λ (c : EdgeCosts). length (c .up)) (S .lists) ∙ length-list (size N) G f Up (λ i. closed) (length (C₀ .up)) in
+      let d = ap (λ (c : EdgeCosts). length (c .down)) (S .lists) ∙ length-list (size N) G f Down (λ i. closed) (length (C₀ .down)) in
       rooms-pass (itsE (N .order) G) C (omega (arith, A .up-long)) (omega (arith, A .down-long))
 
   -- of distance's checks, that of the junctions is left

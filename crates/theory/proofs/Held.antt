@@ -16,7 +16,7 @@ use Rattle.theory.proofs.Rows.{place-is}
 use Rattle.rules.specs.Graph.{Graph}
 
 -- what stands in a list does not depend on what would stand past its end
-default-same : (l : List ℕ) (k d e : ℕ) → k < length l → getD l k d ≡ getD l k e
+pub default-same : (l : List ℕ) (k d e : ℕ) → k < length l → getD l k d ≡ getD l k e
 default-same [] k d e h = absurd (omega arith)
 default-same (x ∷ xs) zero d e h = refl
 default-same (x ∷ xs) (suc k) d e h = default-same xs k d e (omega arith)

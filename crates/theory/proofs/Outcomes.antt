@@ -4,19 +4,21 @@ use mathlib.Core.Path.{_≡_, refl, sym, ap, _∙_}
 use mathlib.Core.List.{List, [], _∷_}
 use lib.ListN.{getD}
 use Rattle.rules.specs.declared.Refusal.{Refusal}
-use Rattle.rules.specs.declared.Refusal.the-variants.{JunctionCount, ArcLists, ArcEnd, OrderEntry, RankOrFirstRoom, HeadsRoom, NotAHierarchy, ArcWithoutEdge, ArcCost, CostLists, StartOrTarget, RouteRoom, PieceFitsNothing, Text, DistanceRoom, TooFar}
+use Rattle.rules.specs.declared.Refusal.the-variants.{JunctionCount, ArcLists, ArcEnd, OrderEntry, RankOrFirstRoom, HeadsRoom, NotAHierarchy, ArcWithoutEdge, ArcCost, CostLists, StartOrTarget, RouteRoom, PieceFitsNothing, Text, DistanceRoom, TooFar, ArcNumber}
 use Rattle.rules.specs.declared.Direction.{Direction}
 use Rattle.rules.specs.declared.BuildAnswer.{BuildAnswer}
 use Rattle.rules.specs.declared.BuildAnswer.the-variants as build
 use Rattle.rules.specs.declared.FillAnswer.{FillAnswer}
 use Rattle.rules.specs.declared.FillAnswer.the-variants as fill
+use Rattle.rules.specs.declared.ChangeAnswer.{ChangeAnswer}
+use Rattle.rules.specs.declared.ChangeAnswer.the-variants as change
 use Rattle.rules.specs.declared.DistanceAnswer.{DistanceAnswer}
 use Rattle.rules.specs.declared.DistanceAnswer.the-variants as distance
 use Rattle.rules.specs.declared.RouteAnswer.{RouteAnswer}
 use Rattle.rules.specs.declared.RouteAnswer.the-variants as route
 use Rattle.rules.specs.Net.{Net}
-use Rattle.rules.specs.Replies.{Reply, refused, edges, done, far, drive, noWalk, refusalNumber, refusalPlace, buildReply, fillReply, distanceReply, routeReply}
-use Rattle.rules.specs.Calls.{BuildLeaves, buildLeft, buildLeaves, CustomiseLeaves, customiseLeft, customiseLeaves, DistanceLeaves, distanceLeft, distanceLeaves, SweepLeaves, sweepLeft, sweepLeaves, RouteLeaves, routeLeft, routeLeaves}
+use Rattle.rules.specs.Replies.{Reply, refused, edges, done, far, drive, noWalk, looked, refusalNumber, refusalPlace, buildReply, fillReply, changeReply, distanceReply, routeReply}
+use Rattle.rules.specs.Calls.{BuildLeaves, buildLeft, buildLeaves, CustomiseLeaves, customiseLeft, customiseLeaves, ChangeLeaves, changeLeft, changeLeaves, DistanceLeaves, distanceLeft, distanceLeaves, SweepLeaves, sweepLeft, sweepLeaves, RouteLeaves, routeLeft, routeLeaves}
 use Rattle.rules.specs.Graph.{Graph}
 use Rattle.rules.specs.Hierarchy.{EdgeCosts}
 
@@ -43,6 +45,7 @@ refusalOf number place =
     ∷ Text place
     ∷ DistanceRoom
     ∷ TooFar place
+    ∷ ArcNumber
     ∷ [])
     number
     JunctionCount
@@ -65,6 +68,7 @@ refusal-back PieceFitsNothing = refl
 refusal-back (Text line) = refl
 refusal-back DistanceRoom = refl
 refusal-back (TooFar junction) = refl
+refusal-back ArcNumber = refl
 
 -- ---- answers
 
@@ -76,6 +80,7 @@ readReply refuse one two bare done = bare
 readReply refuse one two bare (far d) = one d
 readReply refuse one two bare (drive d k) = two d k
 readReply refuse one two bare noWalk = bare
+readReply refuse one two bare (looked t) = one t
 
 -- answers that can be read back from their replies are told apart by them
 answers : {A : Type 0} (reply : A → Reply) (refuse : Refusal → A) (one : ℕ → A) (two : ℕ → ℕ → A) (bare : A)
@@ -92,6 +97,11 @@ pub fill-answers : (a b : FillAnswer) → fillReply a ≡ fillReply b → a ≡ 
 fill-answers =
     answers fillReply fill.Refused (λ e. fill.Done) (λ d k. fill.Done) fill.Done
     (elim [ fill.Done ↦ refl | fill.Refused r ↦ ap fill.Refused (refusal-back r) ])
+
+pub change-answers : (a b : ChangeAnswer) → changeReply a ≡ changeReply b → a ≡ b
+change-answers =
+    answers changeReply change.Refused change.Triangles (λ d k. change.Triangles 0) (change.Triangles 0)
+    (elim [ change.Triangles t ↦ refl | change.Refused r ↦ ap change.Refused (refusal-back r) ])
 
 pub distance-answers : (a b : DistanceAnswer) → distanceReply a ≡ distanceReply b → a ≡ b
 distance-answers =
@@ -125,6 +135,18 @@ pub customise-determined : (N : Net) (rank : List ℕ) (G : Graph) (C₀ : EdgeC
 customise-determined N rank G C₀ r r′ C C′ e e′ =
     let s = e ∙ sym e′ in
     (fill-answers r r′ (ap (λ (x : CustomiseLeaves). x .reply) s), ap (λ (x : CustomiseLeaves). x .costs) s)
+
+-- change's promise: answer, cost list, up and down
+pub change-determined : (N : Net) (rank : List ℕ) (G : Graph) (C₀ : EdgeCosts) (arc cost : ℕ) (r r′ : ChangeAnswer) (costs costs′ : List ℕ) (C C′ : EdgeCosts)
+    → changeLeft costs C (changeReply r) ≡ changeLeaves N rank G C₀ arc cost
+    → changeLeft costs′ C′ (changeReply r′) ≡ changeLeaves N rank G C₀ arc cost
+    → (r ≡ r′) × (costs ≡ costs′) × (C ≡ C′)
+change-determined N rank G C₀ arc cost r r′ costs costs′ C C′ e e′ =
+    let s = e ∙ sym e′ in (
+      change-answers r r′ (ap (λ (x : ChangeLeaves). x .reply) s),
+      ap (λ (x : ChangeLeaves). x .arcCosts) s,
+      ap (λ (x : ChangeLeaves). x .costs) s,
+    )
 
 -- distance's promise: the answer
 pub distance-determined : (order rank : List ℕ) (G : Graph) (C : EdgeCosts) (from to : ℕ) (r r′ : DistanceAnswer)

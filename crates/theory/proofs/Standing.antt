@@ -108,7 +108,7 @@ module _ {N : Net} {rank : List ℕ} {G : Graph} {C : EdgeCosts} (A : Accepted N
       omega (arith, mul-le-mul-right greatest few)
 
   -- a list of costs has nothing over CLOSED
-  list-small : (d : Direction) (room k : ℕ) → getD (costList (size N) G shortcut d room) k 0 ≤ closed
+  list-small : (d : Direction) (room k : ℕ) → getD (costList (size N) G shortcut d (λ i. closed) room) k 0 ≤ closed
   unfolding costList
   list-small d room k =
       either (split (ltb k room))
@@ -120,7 +120,7 @@ module _ {N : Net} {rank : List ℕ} {G : Graph} {C : EdgeCosts} (A : Accepted N
       omega arith)
     where
       at : ℕ → ℕ
-      at = costAt (size N) G shortcut d
+      at = costAt (size N) G shortcut d (λ i. closed)
 
       along-small : (d : Direction) (a b : ℕ) → along d shortcut a b ≤ closed
       along-small Up a b = shortcut-small a b

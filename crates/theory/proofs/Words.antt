@@ -37,6 +37,10 @@ pub either : {A B C : Type 0} → A ⊎ B → (A → C) → (B → C) → C
 either (inl a) f g = f a
 either (inr b) f g = g b
 
+-- two numbers are the same or differ
+pub same-or-not : (a b : ℕ) → (a ≡ b) ⊎ (a ≢ b)
+same-or-not a b = either (split (eqb a b)) (λ e. inl (eqb-true a b e)) (λ e. inr (eqb-false a b e))
+
 pub or-l : (a b : Bool) → T a → T (a || b)
 or-l true b t = tt
 or-l false b t = absurd t
@@ -142,6 +146,18 @@ pub least-above : (f : ℕ → ℕ) (top n d : ℕ) → d ≤ top → ((i : ℕ)
 unfolding least
 least-above f top zero d h g = h
 least-above f top (suc n) d h g = omega (arith, least-above f top n d h (λ i l. g i (omega arith)), g n (omega arith))
+
+-- where nothing is less than the top it is the top
+pub least-top : (f : ℕ → ℕ) (top n : ℕ) → ((i : ℕ) → i < n → top ≤ f i) → least f top n ≡ top
+least-top f top n h = omega (arith, least-start f top n, least-above f top n top (omega arith) h)
+
+pub least-once : (f g : ℕ → ℕ) (top n z : ℕ) → z < n → top ≤ f z → ((w : ℕ) → w ≢ z → g w ≡ f w) → least g top n ≡ min (least f top n) (g z)
+unfolding least
+least-once f g top zero z l h e = absurd (omega arith)
+least-once f g top (suc n) z l h e =
+    either (same-or-not z n)
+    (λ d. omega (arith, least-same g f top n (λ i b. e i (λ x. omega arith)), ap f d, ap g d, least-start f top n))
+    (λ d. omega (arith, least-once f g top n z (omega arith) h e, e n (λ x. d (sym x))))
 
 -- ---- the lowest
 
@@ -290,10 +306,6 @@ pub is-tabulate : (f : ℕ → ℕ) (xs : List ℕ) → ((k : ℕ) → k < lengt
 is-tabulate f xs h =
     ext-getD 0 xs (tabulate f 0 (length xs)) (sym (length-tabulate f 0 (length xs)))
     (λ k l. h k l ∙ sym (tabulate-at f (length xs) k 0 l))
-
--- two numbers are the same or differ
-pub same-or-not : (a b : ℕ) → (a ≡ b) ⊎ (a ≢ b)
-same-or-not a b = either (split (eqb a b)) (λ e. inl (eqb-true a b e)) (λ e. inr (eqb-false a b e))
 
 -- two numbers of which neither is below the other are the same
 pub neither-below : (p q : ℕ) → (p < q → ⊥) → (q < p → ⊥) → p ≡ q

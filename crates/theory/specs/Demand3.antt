@@ -11,7 +11,7 @@ use lib.ListN.{length, getD}
 use Rattle.rules.specs.declared.Direction.{Direction}
 use Rattle.rules.specs.Words.{has}
 use Rattle.rules.specs.Costs.{closed}
-use Rattle.rules.specs.Replies.{Reply, refused, edges, done, far, drive, noWalk}
+use Rattle.rules.specs.Replies.{Reply, refused, edges, done, far, drive, noWalk, looked}
 use Rattle.rules.specs.Net.{Net, size, arcs, tail, head, arcCost, inForce}
 use Rattle.rules.specs.Route.{routeList}
 use Rattle.rules.specs.Calls.{customiseLeaves, customiseLeft, listedDistance, distanceLeaves, SweepLeaves, sweepLeaves, RouteLeaves, routeLeaves}
@@ -63,6 +63,7 @@ TrueDistance N from to (refused number place) = ⊥
 TrueDistance N from to (edges e) = ⊥
 TrueDistance N from to done = ⊥
 TrueDistance N from to (drive d k) = ⊥
+TrueDistance N from to (looked t) = ⊥
 
 -- the route list begins with a walk of k arcs that costs d, passes no junction twice and is the least; the other places are filled;
 -- it has at most n - 1 arcs
@@ -84,6 +85,7 @@ TrueAnswer N from to room route (refused number place) = (number ≡ 12) × (suc
 TrueAnswer N from to room route (edges e) = ⊥
 TrueAnswer N from to room route done = ⊥
 TrueAnswer N from to room route (far d) = ⊥
+TrueAnswer N from to room route (looked t) = ⊥
 
 -- ---- what a sweep lists
 
@@ -162,6 +164,7 @@ Says entry (refused number place) = ⊥
 Says entry (edges e) = ⊥
 Says entry done = ⊥
 Says entry (drive d k) = ⊥
+Says entry (looked t) = ⊥
 
 -- "The filled list .. holds, for each junction, what the distance call says": a list that a sweep filled has n entries, and each says it
 abbrev pub SweepSaysDistance : Type 0
