@@ -15,9 +15,9 @@ use Rattle.theory.specs.Rows.{InRow, Rows, Lists, count}
 use Rattle.theory.proofs.Words.{either, same-or-not}
 use Rattle.theory.proofs.Rows.{in-heads, in-row-i, next-row, lists-same, row-of, once}
 use Rattle.lists.specs.Lent.{chosen}
-use Rattle.customise.specs.Waiting.{Spread}
-use Rattle.customise.specs.Turns.{Within, across, atMost, lowered, Beside, Third, Crossed}
-use Rattle.customise.proofs.Stored.{Stored, stored}
+use Rattle.turns.specs.Edges.{across, atMost}
+use Rattle.customise.specs.Turns.{Spread, Within, lowered, Beside, Third, Crossed}
+use Rattle.turns.proofs.Stored.{Stored, stored}
 
 -- ---- one triangle
 

@@ -1,6 +1,6 @@
 -- The turn of x, for some roads: its row costs the least of the roads and of the ways over the rows that are past x, so at the end the
 -- customised costs. Assumes nothing.
-use Prim.Native.Nat.{ℕ, zero, suc, _+_, _≤_, _<_, min}
+use Prim.Native.Nat.{ℕ, _+_, _≤_, _<_, min}
 use mathlib.Core.Path.{_≡_, refl, sym, ap, _∙_, subst}
 use mathlib.Core.Logic.{_≢_}
 use mathlib.Core.Bool.{Bool, true, false, cond, _&&_}
@@ -17,25 +17,17 @@ use Rattle.rules.specs.Graph.{Graph}
 use Rattle.rules.specs.Hierarchy.{EdgeCosts, along, linked, place}
 use Rattle.rules.specs.Customised.{over, customised}
 use Rattle.theory.specs.Rows.{InRow, count}
-use Rattle.theory.proofs.Words.{either, split, same-or-not, true-holds, holds-true, true-false, cond-true, cond-false, and-i, and-l, and-r, least-start, least-above, least-same}
+use Rattle.theory.proofs.Words.{either, split, same-or-not, true-holds, holds-true, true-false, cond-true, cond-false, and-i, and-l, and-r, least-start, least-above, least-once, least-same}
 use Rattle.theory.proofs.Rows.{in-row-i, next-row, before, row-of, linked-e, linked-i, place-is}
 use Rattle.theory.proofs.Customised.{customised-is}
 use Rattle.lists.specs.Lent.{chosen}
-use Rattle.customise.specs.Edges.{At}
-use Rattle.customise.specs.Waiting.{Turn, PassedBelow}
-use Rattle.customise.specs.Turns.{across, Crossed, Shut, Risen}
-use Rattle.customise.proofs.At.{at-as}
-use Rattle.customise.proofs.Stored.{Stored}
+use Rattle.turns.specs.Edges.{At, across}
+use Rattle.turns.specs.Waiting.{Turn, PassedBelow}
+use Rattle.customise.specs.Turns.{Crossed, Shut, Risen}
+use Rattle.turns.proofs.At.{at-as}
+use Rattle.turns.proofs.Stored.{Stored}
 
 -- ---- the least, with one number that counts for more
-
-least-once : (f g : ℕ → ℕ) (top n z : ℕ) → z < n → top ≤ f z → ((w : ℕ) → w ≢ z → g w ≡ f w) → least g top n ≡ min (least f top n) (g z)
-unfolding least
-least-once f g top zero z l h e = absurd (omega arith)
-least-once f g top (suc n) z l h e =
-    either (same-or-not z n)
-    (λ d. omega (arith, least-same g f top n (λ i b. e i (λ x. omega arith)), ap f d, ap g d, least-start f top n))
-    (λ d. omega (arith, least-once f g top n z (omega arith) h e, e n (λ x. d (sym x))))
 
 -- ---- the ways over some rows
 

@@ -21,7 +21,7 @@ use Rattle.theory.proofs.LastArc.{lastBetween, last-hit, last-miss}
 use Rattle.lists.specs.Lent.{edgeFound, chosen}
 use Rattle.lists.proofs.Found.{edge-at, edge-nowhere}
 use Rattle.customise.specs.Edges.{Edge, laidOn, ArcFits, laid}
-use Rattle.customise.proofs.Stored.{stored}
+use Rattle.turns.proofs.Stored.{stored}
 
 -- ---- one list
 

@@ -21,9 +21,10 @@ use Rattle.theory.proofs.CostLists.{list-of}
 use Rattle.theory.proofs.Standing.{road-small}
 use Rattle.lists.specs.Lent.{chosen, filled}
 use Rattle.lists.proofs.Filled.{filled-whole}
-use Rattle.customise.specs.Edges.{At, ArcFits, laid}
+use Rattle.turns.specs.Edges.{At}
+use Rattle.customise.specs.Edges.{ArcFits, laid}
 use Rattle.customise.specs.Turns.{Turned}
-use Rattle.customise.proofs.At.{at-as}
+use Rattle.turns.proofs.At.{at-as}
 use Rattle.customise.proofs.Laid.{arc-fits, laid-on}
 
 -- lists as long as their rooms that hold the costs at the edges' places, and CLOSED past the edges
@@ -36,8 +37,8 @@ pub record Listing (n : ℕ) (G : Graph) (cost : ℕ → ℕ → ℕ) (room C : 
 -- such lists are those of the definition
 listing-is : {n : ℕ} {G : Graph} {cost : ℕ → ℕ → ℕ} {room C : EdgeCosts} → Rows n G → Listing n G cost room C → C ≡ costLists n G cost room
 listing-is {cost = cost} {room} {C} R L =
-    let u = list-of R cost Up (length (room .up)) (C .up) (L .up-long) (λ p k h r. L .there p k h r .stands Up) (L .past Up) in
-    let w = list-of R cost Down (length (room .down)) (C .down) (L .down-long) (λ p k h r. L .there p k h r .stands Down) (L .past Down) in
+    let u = list-of R cost Up (λ i. closed) (length (room .up)) (C .up) (L .up-long) (λ p k h r. L .there p k h r .stands Up) (L .past Up) in
+    let w = list-of R cost Down (λ i. closed) (length (room .down)) (C .down) (L .down-long) (λ p k h r. L .there p k h r .stands Down) (L .past Down) in
     rw (← u, ← w) refl
 
 -- the arcs below m have been laid, in rooms that are long enough

@@ -1,9 +1,6 @@
-pub mod At
-pub mod Stored
 pub mod Laid
 pub mod Laying
 pub mod Spread
-pub mod Waiting
 pub mod Crossed
 pub mod Holding
 pub mod Turned

@@ -8,8 +8,9 @@ use Rattle.rules.specs.Graph.{Graph}
 use Rattle.theory.specs.Rows.{InRow}
 use Rattle.theory.proofs.Words.{either, same-or-not}
 use Rattle.theory.proofs.Rows.{in-heads, in-row-i, next-row, once}
-use Rattle.customise.specs.Waiting.{Turn, Spread, SameBelow}
-use Rattle.customise.proofs.Stored.{Stored, stored}
+use Rattle.turns.specs.Waiting.{Turn, SameBelow}
+use Rattle.customise.specs.Turns.{Spread}
+use Rattle.turns.proofs.Stored.{Stored, stored}
 
 -- the places of row x before k have been spread out
 pub record Spreading (G : Graph) (x end k : ℕ) (places₀ places : List ℕ) : Type 0 where

@@ -1,30 +1,24 @@
 -- Turns, one after the other, whatever the roads cost. Assumes nothing.
 use Prim.Native.Nat.{ℕ, suc, _+_, _≤_, _<_}
-use mathlib.Core.Path.{_≡_, refl, sym, ap, _∙_, subst}
+use mathlib.Core.Path.{_≡_, sym, ap, _∙_, subst}
 use mathlib.Core.List.{List}
 use native.Mathlib.Omega.{arith}
 use lib.ListN.{length, getD, set, replicate, length-replicate}
 use Rattle.rules.specs.Graph.{Graph}
 use Rattle.rules.specs.Hierarchy.{EdgeCosts}
 use Rattle.theory.specs.Rows.{Rows, Lists, count}
-use Rattle.theory.proofs.Rows.{in-heads, lists-same}
-use Rattle.customise.specs.Edges.{Kept}
-use Rattle.customise.specs.Waiting.{Turn, Spread, SameBelow, Waiting, PassedBelow, queued}
-use Rattle.customise.specs.Turns.{Beside, Crossed, Shut, Risen, Turned}
-use Rattle.customise.proofs.Stored.{Stored}
-use Rattle.customise.proofs.Waiting.{met, waiting-none, waiting-same, waiting-past, waiting-next, passed-none, passed-same, passed-next}
+use Rattle.theory.proofs.Rows.{in-heads}
+use Rattle.turns.specs.Edges.{Kept}
+use Rattle.turns.specs.Waiting.{Turn, SameBelow, Waiting, PassedBelow, queued}
+use Rattle.customise.specs.Turns.{Spread, Beside, Crossed, Shut, Risen, Turned}
+use Rattle.turns.proofs.Kept.{kept-none, kept-on}
+use Rattle.turns.proofs.Stored.{Stored}
+use Rattle.turns.proofs.Waiting.{met, waiting-none, waiting-same, waiting-past, waiting-next, passed-none, passed-same, passed-next}
 use Rattle.customise.proofs.Holding.{Holding, holding-start, holding-end, holding-more}
 
 -- ---- what is kept
 
--- none, the triangles of a row with x, one step after another
-kept-none : (G : Graph) (C : EdgeCosts) → Kept G C C
-kept-none G C = record { up-long = refl; down-long = refl; rest = λ d k h. refl }
-
-kept-on : {G : Graph} {C C′ C″ : EdgeCosts} → Kept G C C′ → Kept G C′ C″ → Kept G C C″
-kept-on a b =
-    record { up-long = b .up-long ∙ a .up-long; down-long = b .down-long ∙ a .down-long; rest = λ d k h. b .rest d k h ∙ a .rest d k h }
-
+-- past the edges the triangles of a row with x change nothing
 kept-crossed : {G : Graph} {i j : ℕ} {C C′ : EdgeCosts} → Rows (count (G .first)) G → getD (G .heads) i 0 < count (G .first) → Crossed G i j C C′ → Kept G C C′
 kept-crossed {G} {i} R l X =
     record {
@@ -32,10 +26,6 @@ kept-crossed {G} {i} R l X =
       down-long = X .down-long;
       rest = λ d k h. X .others d k (λ b m g t. omega (arith, in-heads R (getD (G .heads) i 0) k l (t .row) .0));
     }
-
--- the lists stay those of the hierarchy
-pub lists-kept : {G : Graph} {C C′ : EdgeCosts} → Lists G C → Kept G C C′ → Lists G C′
-lists-kept L K = lists-same L (K .up-long) (K .down-long)
 
 -- ---- one turn
 

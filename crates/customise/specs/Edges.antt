@@ -1,30 +1,14 @@
--- Costs at the edges' places: what stands there, what is left alone beside them, and where an arc's cost is laid. Assumes nothing.
+-- Where an arc's cost is laid. Assumes nothing.
 use Prim.Native.Nat.{ℕ, _≤_, _<_}
-use mathlib.Core.Path.{_≡_}
 use mathlib.Core.Logic.{_≢_}
 use mathlib.Core.Bool.{cond}
 use mathlib.Core.List.{List}
 use lib.Dec.{T, ltb}
 use lib.ListN.{length, getD, set}
-use Rattle.rules.specs.declared.Direction.{Direction}
 use Rattle.rules.specs.Graph.{Graph}
-use Rattle.rules.specs.Hierarchy.{EdgeCosts, edgeCosts, along, linked, place}
+use Rattle.rules.specs.Hierarchy.{EdgeCosts, edgeCosts, linked, place}
 use Rattle.theory.specs.Rows.{Rows, count}
-use Rattle.lists.specs.Lent.{chosen}
-
--- the number of edges
-abbrev pub edgesOf : (G : Graph) → ℕ
-edgesOf G = getD (G .first) (count (G .first)) 0
-
--- place k is one of row p: what stands there is the cost between the ends of the edge, in both directions
-pub record At (G : Graph) (C : EdgeCosts) (cost : ℕ → ℕ → ℕ) (p k : ℕ) : Type 0 where
-  pub stands : (d : Direction) → getD (chosen d C) k 0 ≡ along d cost p (getD (G .heads) k 0)
-
--- both lists are as long as before, and the same past the edges
-pub record Kept (G : Graph) (C C′ : EdgeCosts) : Type 0 where
-  pub up-long : length (C′ .up) ≡ length (C .up)
-  pub down-long : length (C′ .down) ≡ length (C .down)
-  pub rest : (d : Direction) (k : ℕ) → edgesOf G ≤ k → getD (chosen d C′) k 0 ≡ getD (chosen d C) k 0
+use Rattle.turns.specs.Edges.{edgesOf}
 
 -- where x is below y they are joined, and a list has room for the edges
 pub record Edge (G : Graph) (room x y : ℕ) : Type 0 where

@@ -2,15 +2,15 @@
 use Prim.Native.Nat.{ℕ, _≤_, _<_, min}
 use mathlib.Core.Path.{_≡_}
 use mathlib.Core.List.{List}
-use lib.ListN.{length, getD, set}
+use lib.ListN.{length, getD}
 use Rattle.rules.specs.declared.Direction.{Direction}
-use Rattle.rules.specs.Costs.{closed, sum}
+use Rattle.rules.specs.Costs.{closed}
 use Rattle.rules.specs.Graph.{Graph}
 use Rattle.rules.specs.Hierarchy.{EdgeCosts, edgeCosts, along, linked}
 use Rattle.rules.specs.Customised.{customised}
 use Rattle.theory.specs.Rows.{InRow, Lists, count}
 use Rattle.lists.specs.Lent.{chosen}
-use Rattle.customise.specs.Edges.{At, Kept}
+use Rattle.turns.specs.Edges.{At, Kept, across, atMost}
 
 -- ---- one triangle
 
@@ -18,14 +18,6 @@ use Rattle.customise.specs.Edges.{At, Kept}
 pub record Within (C : EdgeCosts) (k : ℕ) : Type 0 where
   pub up-in : k < length (C .up)
   pub down-in : k < length (C .down)
-
--- from the neighbour at place a of a row over the row's position to the neighbour at place b
-abbrev pub across : (C : EdgeCosts) (a b : ℕ) → ℕ
-across C a b = sum (getD (C .down) a 0) (getD (C .up) b 0)
-
--- a list with v at place k, if less does not stand there
-abbrev pub atMost : (list : List ℕ) (k v : ℕ) → List ℕ
-atMost list k v = set list k (min (getD list k 0) v)
 
 -- the edge at place k, between the neighbours at places i and j of a row, costs no more than the way across, in both directions
 abbrev pub lowered : (i j k : ℕ) (C : EdgeCosts) → EdgeCosts
@@ -54,6 +46,11 @@ pub record Crossed (G : Graph) (i j : ℕ) (C C′ : EdgeCosts) : Type 0 where
   pub others : (d : Direction) (k : ℕ) → ((b : ℕ) → i < b → b < j → Third G i b k → ⊥) → getD (chosen d C′) k 0 ≡ getD (chosen d C) k 0
 
 -- ---- turns
+
+-- the row of x spread out: at each position that it holds stands the edge's place
+pub record Spread (G : Graph) (x : ℕ) (places : List ℕ) : Type 0 where
+  pub long : length places ≡ 4096
+  pub there : (k : ℕ) → InRow G x k → getD places (getD (G .heads) k 0) 0 ≡ k
 
 -- no road costs more than CLOSED
 abbrev pub Shut : (road : ℕ → ℕ → ℕ) → Type 0

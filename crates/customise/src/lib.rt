@@ -1,8 +1,8 @@
 // Arc costs onto the shortcut graph, then lower triangles, for any hierarchy that the checks accept.
 
-ghost use Prim.Native.Nat.{_+_, _≤_, _<_};
+ghost use Prim.Native.Nat.{_+_, _<_};
 ghost use mathlib.Core.Path.{_≡_};
-ghost use lib.ListN.{length, getD, set};
+ghost use lib.ListN.{length, getD};
 ghost use Rattle.rules.specs.Net.{net};
 ghost use Rattle.rules.specs.Graph.{graph};
 ghost use Rattle.rules.specs.Hierarchy.{edgeCosts};
@@ -10,8 +10,8 @@ ghost use Rattle.rules.specs.Calls.{customisedCosts};
 ghost use Rattle.theory.specs.Accepted.{Accepted};
 ghost use Rattle.theory.specs.Rows.{Lists, count};
 ghost use Rattle.customise.specs.Edges.{Edge, laidOn, ArcFits, laid};
-ghost use Rattle.customise.specs.Waiting.{Turn, Spread, SameBelow, Waiting, PassedBelow, queued};
-ghost use Rattle.customise.specs.Turns.{Within, lowered, Beside, Crossed, Turned};
+ghost use Rattle.turns.specs.Waiting.{Turn, SameBelow, Waiting, PassedBelow};
+ghost use Rattle.customise.specs.Turns.{Within, lowered, Beside, Crossed, Spread, Turned};
 use lists::fill;
 use lists::find_edge;
 use lists::position_of;
@@ -20,6 +20,7 @@ use rules::Found;
 use rules::Junction;
 use rules::Position;
 use rules::wide;
+use turns::queue_row;
 
 // The cost from x to y into the list of one direction, at the place of their edge, where x is below y.
 fn lay_cost(
@@ -107,27 +108,6 @@ fn lower_over(
         let k = wide(places[y]);
         lower_edge(up, down, i, j, k);
         j += 1;
-    }
-}
-
-// The row of z waits for the turn of its entry at place i, in front of the rows that wait there; past its end it waits no more.
-fn queue_row(
-    first: &[u32],
-    row_heads: &[u32],
-    links: &mut [u32; 4096],
-    places: &mut [u32; 4096],
-    z: usize,
-    i: usize,
-)
-    requires { ⌜ Turn (graph (now first) (now «row_heads»)) z × (getD (now first) z 0 ≤ i) × (i ≤ getD (now first) (z + 1) 0) ⌝ }
-    ensures { λ _. ⌜ (now (links .exit) ≡ queued (graph (now (first .entry)) (now («row_heads» .entry))) (now (links .entry)) z i) × (now (places .exit) ≡ set (now (places .entry)) z i) ⌝ }
-{
-    let end = wide(first[z + 1]);
-    places[z] = i as u32;
-    if i < end {
-        let y = wide(row_heads[i]);
-        links[z] = links[y];
-        links[y] = (z + 1) as u32;
     }
 }
 

@@ -6,8 +6,9 @@ use Prim.Native.Nat.{ℕ, _-_}
 use lib.ListN.{replicate}
 use Rattle.rules.specs.Graph.{graph}
 use Rattle.rules.specs.Hierarchy.{edgeCosts}
-use Rattle.customise.proofs.Waiting.{turn-of, turn-queue}
-use Rattle.customise.proofs.Turned.{lists-kept, Turning, turning-start, turning-spread, turning-more, turning-all}
+use Rattle.turns.proofs.Waiting.{turn-of, turn-queue}
+use Rattle.turns.proofs.Kept.{lists-kept}
+use Rattle.customise.proofs.Turned.{Turning, turning-start, turning-spread, turning-more, turning-all}
 use Rattle.customise.proofs.lower_all.Statement.{statement}
 use Rattle.customise.proofs.lower_all.Tie as tie
 

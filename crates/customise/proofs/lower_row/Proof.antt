@@ -5,10 +5,12 @@ use mathlib.Core.Path.{_≡_}
 use Prim.Native.Nat.{ℕ, suc, _+_, _-_, _<_}
 use Rattle.rules.specs.Graph.{graph}
 use Rattle.rules.specs.Hierarchy.{edgeCosts}
-use Rattle.customise.specs.Waiting.{Spread, Waiting, PassedBelow}
+use Rattle.turns.specs.Waiting.{Waiting, PassedBelow}
+use Rattle.customise.specs.Turns.{Spread}
 use Rattle.customise.proofs.Spread.{spread-still}
-use Rattle.customise.proofs.Waiting.{turn-of, unmet, met-first, met-turn, met-moves, met-waits, met-passed, met-less, passed-begun}
-use Rattle.customise.proofs.Turned.{lists-kept, Walking, walking-start, walking-end, met-beside, met-spread, met-walks}
+use Rattle.turns.proofs.Waiting.{turn-of, unmet, met-first, met-turn, met-moves, met-waits, met-passed, met-less, passed-begun}
+use Rattle.turns.proofs.Kept.{lists-kept}
+use Rattle.customise.proofs.Turned.{Walking, walking-start, walking-end, met-beside, met-spread, met-walks}
 use Rattle.customise.proofs.lower_row.Statement.{statement}
 use Rattle.customise.proofs.lower_row.Tie as tie
 

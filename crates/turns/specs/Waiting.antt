@@ -15,11 +15,6 @@ pub record Turn (G : Graph) (x : ℕ) : Type 0 where
   pub few : count (G .first) ≤ 4096
   pub under : x < count (G .first)
 
--- the row of x spread out: at each position that it holds stands the edge's place
-pub record Spread (G : Graph) (x : ℕ) (places : List ℕ) : Type 0 where
-  pub long : length places ≡ 4096
-  pub there : (k : ℕ) → InRow G x k → getD places (getD (G .heads) k 0) 0 ≡ k
-
 -- what stands below x stays
 pub record SameBelow (x : ℕ) (l l′ : List ℕ) : Type 0 where
   pub below : (q : ℕ) → q < x → getD l′ q 0 ≡ getD l q 0
@@ -54,6 +49,10 @@ pub record Waiting (G : Graph) (x k : ℕ) (links places : List ℕ) : Type 0 wh
 -- the rows below m are past entries below `top` only
 pub record PassedBelow (G : Graph) (m top : ℕ) (places : List ℕ) : Type 0 where
   pub below : (z i : ℕ) → z < m → InRow G z i → i < getD places z 0 → getD (G .heads) i 0 < top
+
+-- where the row of z waits if it is not to wait before place i: there, or, with nothing behind it, nowhere, which is its end
+unfoldable pub waitAt : (first : List ℕ) (z i : ℕ) → ℕ
+waitAt first z i = cond (ltb (i + 1) (getD first (z + 1) 0)) i (getD first (z + 1) 0)
 
 -- the links once the row of z waits at its place i, in front of those that wait there; past its end it waits no more
 unfoldable pub queued : (G : Graph) (links : List ℕ) (z i : ℕ) → List ℕ

@@ -1,12 +1,12 @@
 -- `queue_row` meets its contract: the link of its entry is read before it is written. Assumes nothing.
 use borrow.Author.Needs.{needs}
-use Rattle.customise.proofs.Waiting.{queue-place, queued-waits, queued-ended}
+use Rattle.turns.proofs.Waiting.{queue-place, queued-waits, queued-ended}
 use native.Mathlib.Omega.{arith}
 use mathlib.Core.Path.{refl}
 use Prim.Native.Nat.{_+_}
 use Rattle.rules.specs.Graph.{graph}
-use Rattle.customise.proofs.queue_row.Statement.{statement}
-use Rattle.customise.proofs.queue_row.Tie as tie
+use Rattle.turns.proofs.queue_row.Statement.{statement}
+use Rattle.turns.proofs.queue_row.Tie as tie
 
 cast-places : tie.Need-cast-places
 cast-places c =

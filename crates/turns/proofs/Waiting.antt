@@ -1,6 +1,6 @@
 -- Rows that wait: taken from the front of a line, put in front of another, and none left that waits for x at the end of its turn. Nothing
 -- here speaks of what is done in a turn. Assumes nothing.
-use Prim.Native.Nat.{ℕ, zero, suc, _+_, _-_, _≤_, _<_}
+use Prim.Native.Nat.{ℕ, suc, _+_, _-_, _≤_, _<_}
 use mathlib.Core.Path.{_≡_, refl, sym, ap, _∙_, subst}
 use mathlib.Core.Logic.{_⊎_, inl, inr, _≢_}
 use mathlib.Core.List.{List, [], _∷_}
@@ -9,14 +9,15 @@ use native.Mathlib.Numerals.{add-one}
 use lib.Dec.{T, ltb}
 use lib.ListN.{length, getD, set, replicate, length-replicate, getD-replicate, List·getD-eq-default}
 use borrow.Author.Tests.{ltb-true, ltb-false, lt-ltb, le-ltb}
-use Rattle.rules.specs.Words.{has}
+use Rattle.rules.specs.Words.{total, has}
 use Rattle.rules.specs.Graph.{Graph}
 use Rattle.rules.specs.Hierarchy.{EdgeCosts}
 use Rattle.theory.specs.Rows.{InRow, Lists, count}
 use Rattle.theory.proofs.Words.{either, split, same-or-not, has-here, has-there, has-nil, has-cons}
+use Rattle.theory.proofs.Totals.{total-less}
 use Rattle.theory.proofs.Rows.{in-heads, in-row-i, next-row}
-use Rattle.customise.specs.Waiting.{Turn, SameBelow, RowChain, Waits, Line, Waiting, PassedBelow, queued}
-use Rattle.customise.proofs.Stored.{Stored, stored}
+use Rattle.turns.specs.Waiting.{Turn, SameBelow, RowChain, Waits, Line, Waiting, PassedBelow, waitAt, queued}
+use Rattle.turns.proofs.Stored.{Stored, stored}
 
 -- ---- positions
 
@@ -129,6 +130,29 @@ module _ {G : Graph} {m m′ z : ℕ} {links links′ places places′ : List �
             either (has-cons z w rest (subst (λ l. T (has l w)) is (L .all w (only w h d) (waits-as (sym (places-as w d)) b))))
             (λ f. absurd (d (sym f))) (λ t. t);
       }
+
+-- ---- where a row waits
+
+-- at the place that is asked, or at its end
+pub wait-there : (first : List ℕ) (z i end : ℕ) → end ≡ getD first (z + 1) 0 → i + 1 < end → i ≡ waitAt first z i
+unfolding waitAt
+wait-there first z i end e l = rw (lt-ltb (i + 1) (getD first (z + 1) 0) (omega arith)) refl
+
+pub wait-end : (first : List ℕ) (z i end : ℕ) → end ≡ getD first (z + 1) 0 → end ≤ i + 1 → end ≡ waitAt first z i
+unfolding waitAt
+wait-end first z i end e l = rw (le-ltb (i + 1) (getD first (z + 1) 0) (omega arith)) e
+
+-- not before that place, nor past the end; what it passes over has nothing behind it
+pub wait-range : (first : List ℕ) (z i j : ℕ) → j ≡ waitAt first z i → i ≤ getD first (z + 1) 0
+    → (i ≤ j) × (j ≤ getD first (z + 1) 0) × ((a : ℕ) → a < j → a + 1 < getD first (z + 1) 0 → a < i)
+wait-range first z i j e h =
+    let end = getD first (z + 1) 0 in
+    either (split (ltb (i + 1) end))
+    (λ t. let d : j ≡ i = e ∙ sym (wait-there first z i end refl (ltb-true (i + 1) end t)) in (omega arith, omega arith, λ a l b. omega arith))
+    (λ t.
+    let u = ltb-false (i + 1) end t in
+    let d : j ≡ end = e ∙ sym (wait-end first z i end refl u) in
+    (omega arith, omega arith, λ a l b. omega arith))
 
 -- ---- a row is queued
 
@@ -266,24 +290,6 @@ module _ {G : Graph} where
 
 -- ---- how much is left to meet
 
--- the sum of f over the numbers below n
-total : (f : ℕ → ℕ) (n : ℕ) → ℕ
-total f zero = 0
-total f (suc n) = total f n + f n
-
-total-most : (f g : ℕ → ℕ) (n : ℕ) → ((w : ℕ) → w < n → g w ≤ f w) → total g n ≤ total f n
-unfolding total
-total-most f g zero h = omega arith
-total-most f g (suc n) h = omega (arith, total-most f g n (λ w l. h w (omega arith)), h n (omega arith))
-
-total-less : (f g : ℕ → ℕ) (n z : ℕ) → z < n → g z < f z → ((w : ℕ) → w ≢ z → g w ≤ f w) → total g n < total f n
-unfolding total
-total-less f g zero z l s h = absurd (omega arith)
-total-less f g (suc n) z l s h =
-    either (same-or-not z n)
-    (λ d. omega (arith, total-most f g n (λ w b. h w (λ e. omega arith)), ap f d, ap g d))
-    (λ d. omega (arith, total-less f g n z (omega arith) s h, h n (λ e. d (sym e))))
-
 -- the places of the rows below m that are still to be met
 pub unmet : (G : Graph) (m : ℕ) (places : List ℕ) → ℕ
 unmet G m places = total (λ z. getD (G .first) (suc z) 0 - getD places z 0) m
@@ -307,6 +313,13 @@ module _ {G : Graph} {x : ℕ} (U : Turn G x) where
     met-turn =
         let (zn, zx, r, ex) = met in
         (record { rows = U .rows; few = U .few; under = zn }, omega (arith, r .low), omega (arith, r .high, next-row G z))
+
+    -- where it waits next: past x, and past nothing else that has something behind it
+    pub met-next : {j : ℕ} → j ≡ waitAt (G .first) z (i + 1)
+        → (i < j) × (j ≤ getD (G .first) (z + 1) 0) × ((a : ℕ) → a < j → InRow G z (a + 1) → a < i + 1)
+    met-next {j} ej =
+        let (l, h, over) = wait-range (G .first) z (i + 1) j ej (met-turn .2) in
+        (omega arith, h, λ a b r. over a b (omega (arith, r .high, next-row G z)))
 
     -- it waits at a later place j
     module _ {j : ℕ} {links′ places′ : List ℕ} (ij : i < j) (el : links′ ≡ queued G links z j) (ep : places′ ≡ set places z j) where

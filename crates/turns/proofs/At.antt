@@ -6,7 +6,7 @@ use Rattle.rules.specs.declared.Direction.{Direction}
 use Rattle.rules.specs.declared.Direction.the-variants.{Up, Down}
 use Rattle.rules.specs.Graph.{Graph}
 use Rattle.rules.specs.Hierarchy.{EdgeCosts, along}
-use Rattle.customise.specs.Edges.{At}
+use Rattle.turns.specs.Edges.{At}
 
 -- other costs stand there, if they are the same from the lower end to the higher and back
 pub at-as : {G : Graph} {C : EdgeCosts} {f g : ℕ → ℕ → ℕ} {p k : ℕ} → At G C f p k → f p (getD (G .heads) k 0) ≡ g p (getD (G .heads) k 0)

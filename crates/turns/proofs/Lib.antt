@@ -1,0 +1,5 @@
+pub mod At
+pub mod Stored
+pub mod Kept
+pub mod Waiting
+pub mod Meeting
