@@ -10,8 +10,9 @@ use Rattle.rules.specs.Net.{net}
 use Rattle.theory.specs.Accepted.{Accepted}
 use Rattle.theory.specs.Threads.{Threaded}
 use Rattle.theory.proofs.Rows.{count-is, lists-of}
-use Rattle.unpack.specs.Opening.{Lows, ByTail, Ready}
-use Rattle.unpack.proofs.ByTail.{tails-fall}
+use Rattle.roads.specs.Roads.{ByTail}
+use Rattle.roads.proofs.ByTail.{tails-fall}
+use Rattle.unpack.specs.Opening.{Lows, Ready}
 use Rattle.drive.specs.Driving.{Given}
 
 -- accepted lists are all that is asked

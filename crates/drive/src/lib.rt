@@ -11,13 +11,15 @@ ghost use Rattle.rules.specs.Refusals.{passes};
 ghost use Rattle.rules.specs.Calls.{routeLeft, routeChecks, routeLeaves};
 ghost use Rattle.rules.specs.Graph.{graph};
 ghost use Rattle.rules.specs.Hierarchy.{edgeCosts, linked};
+ghost use Rattle.roads.specs.Roads.{ByTail};
 ghost use Rattle.unpack.specs.declared.Opened.the-variants.{Next};
-ghost use Rattle.unpack.specs.Opening.{ran, put, wayAlong, ByTail, Ready};
+ghost use Rattle.unpack.specs.Opening.{ran, put, wayAlong, Ready};
 ghost use Rattle.drive.specs.Driving.{Given, Leads, wayPlace, Beside, Traced, steps, Walkable, wayOver, leftAfter};
 use distance::find_meeting;
 use lists::fill;
 use lists::find_edge;
 use lists::position_of;
+use roads::thread_tails;
 use rules::Cost;
 use rules::Direction;
 use rules::Found;
@@ -31,7 +33,6 @@ use unpack::Opened;
 use unpack::find_lows;
 use unpack::open_down;
 use unpack::open_up;
-use unpack::thread_tails;
 
 // The place on the way of the i-th position back from the meeting position, which has the middle place.
 fn way_place(d: Direction, i: usize) -> usize

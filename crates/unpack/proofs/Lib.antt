@@ -1,5 +1,4 @@
 pub mod Put
-pub mod ByTail
 pub mod ArcOf
 pub mod Lows
 pub mod Edge

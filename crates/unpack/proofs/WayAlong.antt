@@ -50,14 +50,10 @@ pub readable : {heads costs order arcAt arcNext low : List ℕ} {G : Graph} {C :
 readable R a b t =
     let (h, g, n) = linked-two (R .lists .rows) a b t in
     record {
-      few = omega (arith, R .size-is, R .lists .few);
+      roads = record { few = omega (arith, R .size-is, R .lists .few); seats = R .seats; costs-long = R .costs-long; fit = R .fit; falls = R .falls };
       from-in = omega (arith, R .size-is);
       to-in = omega (arith, R .size-is);
       apart = n;
-      seats = R .seats;
-      costs-long = R .costs-long;
-      fit = R .fit;
-      falls = R .falls;
     }
 
 -- the arc that fits, or else what the search over all lower positions finds

@@ -1,5 +1,5 @@
 -- What the functions that open pieces ask and promise. Assumes nothing.
-use Prim.Native.Nat.{ℕ, zero, suc, _+_, _-_, _≤_, _<_, min}
+use Prim.Native.Nat.{ℕ, suc, _+_, _-_, _≤_, _<_, min}
 use mathlib.Core.Path.{_≡_}
 use mathlib.Core.Logic.{_≢_}
 use mathlib.Core.Bool.{cond, not, _&&_}
@@ -16,7 +16,7 @@ use Rattle.rules.specs.Hierarchy.{EdgeCosts, linked, place, held}
 use Rattle.rules.specs.Route.{Event, drives, misfits, zFits, opened}
 use Rattle.theory.specs.Orders.{Ordered}
 use Rattle.theory.specs.Rows.{InRow, count, Lists, parentAt}
-use Rattle.theory.specs.Threads.{lastBelow, Threaded}
+use Rattle.roads.specs.Roads.{Falls, Roads}
 use Rattle.unpack.specs.declared.Opened.{Opened}
 use Rattle.unpack.specs.declared.Opened.the-variants.{Next, Full, Misfit}
 use Rattle.unpack.specs.declared.Choice.{Choice}
@@ -59,32 +59,7 @@ pub record Lows (G : Graph) (low : List ℕ) : Type 0 where
   pub under : (x : ℕ) → x < count (G .first) → getD low x 0 ≤ x
   pub reach : (z x : ℕ) → z < x → T (linked G z x) → getD low x 0 ≤ z
 
--- ---- arcs by their tails
-
--- walking the threads stays among m arcs and ends
-pub record Falls (m : ℕ) (at next : List ℕ) : Type 0 where
-  pub at-long : length at ≡ 4096
-  pub next-long : length next ≡ 16384
-  pub starts : (u : ℕ) → u < 4096 → getD at u 0 ≤ m
-  pub falls : (i : ℕ) → i < m → getD next i 0 ≤ i
-
--- the arcs are threaded by their tails
-abbrev pub ByTail : (tails heads at next : List ℕ) → Type 0
-ByTail tails heads at next = (length tails ≡ length heads) × Threaded (λ i. getD tails i 0) 4096 16384 (length heads) at next
-
--- the arc of which one more is told; none for 0
-abbrev pub oneLess : (k : ℕ) → Found
-oneLess zero = Nothing
-oneLess (suc i) = At i
-
--- the last arc listed from junction u to junction v
-abbrev pub lastArc : (tails heads : List ℕ) (u v : ℕ) → Found
-lastArc tails heads u v = oneLess (lastBelow (λ i. eqb (getD tails i 0) u && eqb (getD heads i 0) v) (length heads))
-
--- an arc that is found is one of m
-abbrev pub Within : (m : ℕ) (found : Found) → Type 0
-Within m (At i) = i < m
-Within m Nothing = Unit {0}
+-- ---- the arc in force
 
 -- the arc in force between the junctions at a and b, if its cost is w
 unfoldable pub arcOf : (N : Net) (a b w : ℕ) → Found
@@ -129,14 +104,10 @@ Openable m G x Neither = Unit {0}
 
 -- what the search for an arc between two positions reads
 pub record Readable (heads costs order arcAt arcNext : List ℕ) (a b : ℕ) : Type 0 where
-  pub few : length order ≤ 4096
+  pub roads : Roads heads costs order arcAt arcNext
   pub from-in : a < length order
   pub to-in : b < length order
   pub apart : a ≢ b
-  pub seats : Ordered order
-  pub costs-long : length costs ≡ length heads
-  pub fit : length heads ≤ 16384
-  pub falls : Falls (length heads) arcAt arcNext
 
 -- all that opening reads
 pub record Ready (heads costs order : List ℕ) (G : Graph) (C : EdgeCosts) (arcAt arcNext low : List ℕ) : Type 0 where

@@ -5,22 +5,21 @@ ghost use Prim.Native.Nat.{ℕ, _≤_, _<_, min};
 ghost use mathlib.Core.Path.{_≡_};
 ghost use mathlib.Core.List.{List, [], _∷_};
 ghost use lib.Dec.{T};
-ghost use lib.ListN.{length, getD, replicate};
+ghost use lib.ListN.{length, getD};
 ghost use Rattle.rules.specs.Net.{net};
 ghost use Rattle.rules.specs.Hierarchy.{edgeCosts, linked, held};
 ghost use Rattle.rules.specs.Route.{drives};
 ghost use Rattle.rules.specs.Graph.{graph};
 ghost use Rattle.theory.specs.Rows.{InRow, Rows, count, Lists};
-ghost use Rattle.theory.specs.Threads.{Threaded};
-ghost use Rattle.unpack.specs.Opening.{ran, put, wayAlong, lowTurn, Lows, overZ, middleIn, Falls, ByTail, lastArc, Within, arcOf, choice, Openable, Readable, Ready};
+ghost use Rattle.roads.specs.Roads.{ByTail, Within};
+ghost use Rattle.unpack.specs.Opening.{ran, put, wayAlong, lowTurn, Lows, overZ, middleIn, arcOf, choice, Openable, Readable, Ready};
 use lists::find_edge;
 use lists::junction_at;
+use roads::last_arc;
 use rules::Cost;
 use rules::Found;
-use rules::Junction;
 use rules::Position;
 use rules::wide;
-use rules::wide16;
 
 // What opening a piece answers: the next free place of the route list, that an arc has no place left, or that a piece fits nothing.
 pub enum Opened {
@@ -35,21 +34,6 @@ enum Choice {
     Arc(usize),
     Over { z: Position, down: usize, up: usize },
     Neither,
-}
-
-// Threads the arcs by their tails, so that the arcs from one junction are found without a search.
-pub fn thread_tails(tails: &[u32], arc_at: &mut [u16; 4096], arc_next: &mut [u16; 16384])
-    requires { ⌜ ((i : ℕ) → i < length (now tails) → getD (now tails) i 0 < 4096) × (length (now tails) ≤ 16384) × (now «arc_at» ≡ replicate 4096 0) × (length (now «arc_next») ≡ 16384) ⌝ }
-    ensures { λ _. ⌜ Threaded (λ i. getD (now (tails .entry)) i 0) 4096 16384 (length (now (tails .entry))) (now («arc_at» .exit)) (now («arc_next» .exit)) ⌝ }
-{
-    let mut i = 0;
-    while i < tails.len() {
-        let tail = Junction(tails[i]);
-        let u = wide(tail.0);
-        arc_next[i] = arc_at[u];
-        arc_at[u] = (i + 1) as u16;
-        i += 1;
-    }
 }
 
 // The lesser of two numbers.
@@ -100,31 +84,6 @@ fn write_arc(arc: usize, at: usize, route: &mut [u32]) -> Opened
     }
     route[at] = arc as u32;
     Opened::Next(at + 1)
-}
-
-// The last arc listed from u to v: a later listing replaces an earlier one.
-fn last_arc(
-    heads: &[u32],
-    arc_at: &[u16; 4096],
-    arc_next: &[u16; 16384],
-    u: Junction,
-    v: Junction,
-) -> Found
-    requires { ⌜ Falls (length (now heads)) (now «arc_at») (now «arc_next») × (u .0 < 4096) × (length (now heads) ≤ 16384) ⌝ }
-    ensures within { λ r. ⌜ Within (length (now (heads .entry))) r ⌝ }
-    ensures last { λ r. ⌜ ((tails : List ℕ) → ByTail tails (now (heads .entry)) (now («arc_at» .entry)) (now («arc_next» .entry)) → r ≡ lastArc tails (now (heads .entry)) (u .0) (v .0)) ⌝ }
-{
-    let want = v.0;
-    let start = u.0 as usize;
-    let mut k = wide16(arc_at[start]);
-    while 0 < k {
-        let i = k - 1;
-        if heads[i] == want {
-            return Found::At(i);
-        }
-        k = wide16(arc_next[i]);
-    }
-    Found::Nothing
 }
 
 // The arc in force between the junctions at a and b, if its cost is w.

@@ -11,8 +11,8 @@ use Rattle.unpack.proofs.fitting_arc.Tie as tie
 last-arc-requires : tie.Need-last-arc-requires
 last-arc-requires c κs =
     let s = c .before .before .before .before .before in
-    let p = s .pre in
-    (p .falls, omega (arith, p .seats .within (s .args .a .0) (p .from-in), p .few, c .before .junction-at .ensures), p .fit)
+    let R = s .pre .roads in
+    (R .falls, omega (arith, R .seats .within (s .args .a .0) (s .pre .from-in), R .few, c .before .junction-at .ensures), R .fit)
 
 -- the arc found is listed
 listed : (c : tie.After-i) → c .i .given .0 .0 < length (c .before .before .before .before .before .before .before .before .args .heads .now)
@@ -28,20 +28,17 @@ returns c =
     )
 
 returns-2 : tie.Need-returns-2
-returns-2 c =
-    let l = c .before .before .before .before .before .before in
-    let s = l .before .before .before .before .before .before in
-    (tt, λ tails B. shut-piece tails B (s .pre) (l .before .before .junction-at .ensures) (l .before .junction-at2 .ensures) _ (omega arith))
+returns-2 c = (tt, λ tails B. shut-piece _ _ _ _ (omega arith))
 
 mul-if2 : tie.Need-mul-if2
 mul-if2 c =
     let i = c .before .before .before .before in
-    omega (arith, listed i, i .before .before .before .before .before .before .before .before .pre .costs-long)
+    omega (arith, listed i, i .before .before .before .before .before .before .before .before .pre .roads .costs-long)
 
 shared-slice-read-if2 : tie.Need-shared-slice-read-if2
 shared-slice-read-if2 c =
     let i = c .before .before .before .before .before in
-    omega (arith, listed i, i .before .before .before .before .before .before .before .before .pre .costs-long)
+    omega (arith, listed i, i .before .before .before .before .before .before .before .before .pre .roads .costs-long)
 
 returns-3 : tie.Need-returns-3
 returns-3 c =

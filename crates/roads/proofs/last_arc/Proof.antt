@@ -4,9 +4,9 @@ use Prim.Native.Nat.{_<_, _-_}
 use mathlib.Core.Path.{refl}
 use lib.ListN.{length}
 use native.Mathlib.Omega.{arith}
-use Rattle.unpack.proofs.ByTail.{Seeking, seek-start, seek-within, seek-found, seek-more, seek-end}
-use Rattle.unpack.proofs.last_arc.Statement.{statement}
-use Rattle.unpack.proofs.last_arc.Tie as tie
+use Rattle.roads.proofs.ByTail.{Seeking, seek-start, seek-within, seek-found, seek-more, seek-end}
+use Rattle.roads.proofs.last_arc.Statement.{statement}
+use Rattle.roads.proofs.last_arc.Tie as tie
 
 abbrev Inv-loop : tie.InvT-loop
 Inv-loop heads arc-at arc-next want start k₀ k = Seeking heads arc-at arc-next start want k

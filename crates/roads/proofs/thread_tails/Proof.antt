@@ -5,9 +5,9 @@ use native.Mathlib.Omega.{arith}
 use mathlib.Core.Path.{_≡_, subst}
 use lib.ListN.{length, getD}
 use Rattle.theory.specs.Threads.{Threaded}
-use Rattle.unpack.proofs.ByTail.{tails-none, tails-more}
-use Rattle.unpack.proofs.thread_tails.Statement.{statement}
-use Rattle.unpack.proofs.thread_tails.Tie as tie
+use Rattle.roads.proofs.ByTail.{tails-none, tails-more}
+use Rattle.roads.proofs.thread_tails.Statement.{statement}
+use Rattle.roads.proofs.thread_tails.Tie as tie
 
 abbrev Inv-loop : tie.InvT-loop
 Inv-loop tails arc-at₀ arc-next₀ i₀ arc-at arc-next i = (i ≤ length tails) × Threaded (λ j. getD tails j 0) 4096 16384 i arc-at arc-next

@@ -12,7 +12,7 @@ use Rattle.rules.specs.declared.Found.the-variants.{At, Nothing}
 use Rattle.theory.specs.Threads.{lastBelow, Threaded}
 use Rattle.theory.proofs.Words.{either, split, true-false, holds-true, true-holds, and-l}
 use Rattle.theory.proofs.Threads.{last-hit, last-miss, last-none, last-within, last-stands, last-passes, threads-none, threads-more, thread-on}
-use Rattle.unpack.specs.Opening.{Falls, ByTail, oneLess, lastArc}
+use Rattle.roads.specs.Roads.{Falls, ByTail, oneLess, lastArc}
 
 -- ---- laid
 

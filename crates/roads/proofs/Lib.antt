@@ -1,0 +1,2 @@
+pub mod ByTail
+pub mod LastListed
