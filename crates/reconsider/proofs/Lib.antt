@@ -1,0 +1,4 @@
+pub mod Said
+pub mod Flags
+pub mod Marks
+pub mod Reaches
