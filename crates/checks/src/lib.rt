@@ -8,16 +8,18 @@ ghost use Rattle.rules.specs.Net.{net};
 ghost use Rattle.rules.specs.Graph.{graph};
 ghost use Rattle.rules.specs.Hierarchy.{edgeCosts};
 ghost use Rattle.rules.specs.Refusals.{firstFailure, check1, check2, check3, lacksEdge, check8};
-ghost use Rattle.rules.specs.Calls.{buildChecks, customiseChecks, distanceChecks, sweepChecks, routeChecks};
+ghost use Rattle.rules.specs.Calls.{buildChecks, customiseChecks, changeChecks, distanceChecks, sweepChecks, routeChecks};
 ghost use Rattle.lists.specs.Lent.{verdict};
 ghost use Rattle.checks.specs.Edges.{Arcs};
 use hierarchy::check_graph;
 use lists::Check;
+use lists::check_arc_number;
 use lists::check_cost_lists;
 use lists::check_costs;
 use lists::check_distances;
 use lists::check_ends;
 use lists::check_junctions;
+use lists::check_new_cost;
 use lists::check_order;
 use lists::check_question;
 use lists::check_rooms;
@@ -25,6 +27,7 @@ use lists::check_three_lists;
 use lists::check_two_lists;
 use lists::find_edge;
 use lists::position_of;
+use rules::Cost;
 use rules::Found;
 use rules::Junction;
 use rules::Refusal;
@@ -149,6 +152,41 @@ pub fn check_customise(
         return Check::Fails(refusal);
     }
     check_cost_lists(wide(first[n]), up, down)
+}
+
+// All of change's checks: customise's, and then those of the arc's number and of its new cost.
+pub fn check_change(
+    tails: &[u32],
+    heads: &[u32],
+    costs: &[u32],
+    order: &[u32],
+    rank: &[u32],
+    first: &[u32],
+    row_heads: &[u32],
+    up: &[u32],
+    down: &[u32],
+    arc: usize,
+    cost: Cost,
+) -> Check
+    ensures { λ r. ⌜ verdict r ≡ changeChecks (net (now (tails .entry)) (now (heads .entry)) (now (costs .entry)) (now (order .entry))) (now (rank .entry)) (graph (now (first .entry)) (now («row_heads» .entry))) (edgeCosts (now (up .entry)) (now (down .entry))) arc (cost .0) ⌝ }
+{
+    if let Check::Fails(refusal) = check_customise(
+        tails,
+        heads,
+        costs,
+        order,
+        rank,
+        first,
+        row_heads,
+        up,
+        down,
+    ) {
+        return Check::Fails(refusal);
+    }
+    if let Check::Fails(refusal) = check_arc_number(tails.len(), arc) {
+        return Check::Fails(refusal);
+    }
+    check_new_cost(arc, cost)
 }
 
 // All of distance's checks, in the paper's order.

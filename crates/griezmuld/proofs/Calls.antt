@@ -7,15 +7,15 @@ use lib.Dec.{leb}
 use lib.ListN.{length, getD, replicate}
 use borrow.Author.Tests.{leb-true, leb-false, lt-ltb, le-ltb, eq-eqb, ne-eqb}
 use Rattle.rules.specs.Costs.{none}
-use Rattle.rules.specs.Replies.{refused, edges, done, far, noWalk}
-use Rattle.rules.specs.Net.{Net, net, rankList}
+use Rattle.rules.specs.Replies.{refused, edges, done, far, noWalk, looked}
+use Rattle.rules.specs.Net.{Net, net, withCost, rankList}
 use Rattle.rules.specs.Graph.{Graph, firstList, headsList, edgeCount, graph}
 use Rattle.rules.specs.Refusals.{passes, fails, check6, check15}
 use Rattle.lists.specs.Lent.{filled}
 use Rattle.lists.proofs.Filled.{filled-whole}
 use Rattle.rules.specs.Hierarchy.{EdgeCosts, along}
 use Rattle.rules.specs.declared.Direction.{Direction}
-use Rattle.rules.specs.Calls.{buildLeft, buildChecks, buildLeaves, customiseLeft, customiseChecks, customiseLeaves, distanceLeft, distanceChecks, listedDistance, distanceBetween, distanceLeaves, SweepLeaves, sweepLeft, sweepChecks, sweptLeaves, sweepLeaves, routeLeft, routeChecks, routeLeaves, customisedCosts}
+use Rattle.rules.specs.Calls.{buildLeft, buildChecks, buildLeaves, customiseLeft, customiseChecks, customiseLeaves, changeLeft, changeChecks, changedCosts, trianglesLookedAt, changeLeaves, distanceLeft, distanceChecks, listedDistance, distanceBetween, distanceLeaves, SweepLeaves, sweepLeft, sweepChecks, sweptLeaves, sweepLeaves, routeLeft, routeChecks, routeLeaves, customisedCosts}
 use Rattle.theory.proofs.Words.{either, split}
 use Rattle.theory.proofs.Orders.{inverse-list}
 use Rattle.theory.proofs.Rows.{rows}
@@ -106,6 +106,21 @@ module _ (N : Net) (rank : List ℕ) (G : Graph) (C₀ : EdgeCosts) where
       → customiseLeft C done ≡ customiseLeaves N rank G C₀
   unfolding customiseLeaves
   customise-done C e l = rw (e, l) refl
+
+-- ---- change
+
+module _ (N : Net) (rank : List ℕ) (G : Graph) (C₀ : EdgeCosts) (arc cost : ℕ) where
+  pub change-refused : (k p : ℕ) → changeChecks N rank G C₀ arc cost ≡ fails k p
+      → changeLeft (N .costs) C₀ (refused k p) ≡ changeLeaves N rank G C₀ arc cost
+  unfolding changeLeaves
+  change-refused k p e = rw e refl
+
+  -- the cost list and the shortcut costs have changed, and the triangles are told
+  pub change-told : (costs : List ℕ) (C : EdgeCosts) (t : ℕ) → changeChecks N rank G C₀ arc cost ≡ passes
+      → costs ≡ withCost N arc cost .costs → C ≡ changedCosts N G C₀ arc cost → t ≡ trianglesLookedAt N G C₀ arc cost
+      → changeLeft costs C (looked t) ≡ changeLeaves N rank G C₀ arc cost
+  unfolding changeLeaves
+  change-told costs C t e a l n = rw (e, a, l, n) refl
 
 -- ---- distance
 

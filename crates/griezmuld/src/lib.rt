@@ -3,12 +3,14 @@
 
 ghost use mathlib.Core.Path.{_≡_};
 ghost use Rattle.rules.specs.Net.{net};
-ghost use Rattle.rules.specs.Replies.{buildReply, fillReply, distanceReply, routeReply};
-ghost use Rattle.rules.specs.Calls.{buildLeft, buildLeaves, customiseLeft, customiseLeaves, distanceLeft, distanceLeaves, sweepLeft, sweepLeaves, routeLeft, routeLeaves};
+ghost use Rattle.rules.specs.Replies.{buildReply, fillReply, changeReply, distanceReply, routeReply};
+ghost use Rattle.rules.specs.Calls.{buildLeft, buildLeaves, customiseLeft, customiseLeaves, changeLeft, changeLeaves, distanceLeft, distanceLeaves, sweepLeft, sweepLeaves, routeLeft, routeLeaves};
 ghost use Rattle.rules.specs.Graph.{graph};
 ghost use Rattle.rules.specs.Hierarchy.{edgeCosts};
 ghost use Rattle.rules.specs.declared.Direction.the-variants.{Up, Down};
+use change::change_costs;
 use checks::check_build;
+use checks::check_change;
 use checks::check_customise;
 use checks::check_distance;
 use checks::check_route;
@@ -23,6 +25,8 @@ use lists::fill;
 use lists::fill_rank;
 use lists::position_of;
 use rules::BuildAnswer;
+use rules::ChangeAnswer;
+use rules::Cost;
 use rules::Direction;
 use rules::DistanceAnswer;
 use rules::FillAnswer;
@@ -83,6 +87,52 @@ pub fn customise(
     }
     customise_costs(tails, heads, costs, order, rank, first, row_heads, up, down);
     FillAnswer::Done
+}
+
+// A new cost of one arc: the cost list and the shortcut costs change together or not at all. How many lower triangles were looked at is told.
+pub fn change(
+    tails: &[u32],
+    heads: &[u32],
+    costs: &mut [u32],
+    order: &[u32],
+    rank: &[u32],
+    first: &[u32],
+    row_heads: &[u32],
+    up: &mut [u32],
+    down: &mut [u32],
+    arc: usize,
+    cost: Cost,
+) -> ChangeAnswer
+    ensures { λ r. ⌜ changeLeft (now (costs .exit)) (edgeCosts (now (up .exit)) (now (down .exit))) (changeReply r) ≡ changeLeaves (net (now (tails .entry)) (now (heads .entry)) (now (costs .entry)) (now (order .entry))) (now (rank .entry)) (graph (now (first .entry)) (now («row_heads» .entry))) (edgeCosts (now (up .entry)) (now (down .entry))) arc (cost .0) ⌝ }
+{
+    if let Check::Fails(refusal) = check_change(
+        tails,
+        heads,
+        costs,
+        order,
+        rank,
+        first,
+        row_heads,
+        up,
+        down,
+        arc,
+        cost,
+    ) {
+        return ChangeAnswer::Refused(refusal);
+    }
+    ChangeAnswer::Triangles(change_costs(
+        tails,
+        heads,
+        costs,
+        order,
+        rank,
+        first,
+        row_heads,
+        up,
+        down,
+        arc,
+        cost,
+    ))
 }
 
 // The distance between two junctions, by the lists as they are.

@@ -6,7 +6,7 @@ ghost use mathlib.Core.List.{[], _∷_};
 ghost use lib.ListN.{length, getD};
 ghost use Rattle.rules.specs.Net.{rankList};
 ghost use Rattle.rules.specs.Graph.{graph};
-ghost use Rattle.rules.specs.Refusals.{check1, check2, check3, check4, check5, unlawful, check9, check10, check11, check15};
+ghost use Rattle.rules.specs.Refusals.{check1, check2, check3, check4, check5, unlawful, check9, check10, check11, check15, check17, checkNewCost};
 ghost use Rattle.rules.specs.Hierarchy.{edgeCosts};
 ghost use Rattle.theory.specs.Orders.{Ordered};
 ghost use Rattle.theory.specs.Rows.{Rows, count};
@@ -193,6 +193,26 @@ pub fn check_distances(n: usize, distances: &[u32]) -> Check
 {
     if distances.len() != n {
         return Check::Fails(Refusal::DistanceRoom);
+    }
+    Check::Passes
+}
+
+// 17: the arc is one of the m listed.
+pub fn check_arc_number(m: usize, arc: usize) -> Check
+    ensures { λ r. ⌜ verdict r ≡ check17 m arc ⌝ }
+{
+    if m <= arc {
+        return Check::Fails(Refusal::ArcNumber);
+    }
+    Check::Passes
+}
+
+// 9 for the new cost of an arc: it is CLOSED, or from 1 to the greatest.
+pub fn check_new_cost(arc: usize, cost: Cost) -> Check
+    ensures { λ r. ⌜ verdict r ≡ checkNewCost arc (cost .0) ⌝ }
+{
+    if is_unlawful(cost) {
+        return Check::Fails(Refusal::ArcCost(arc));
     }
     Check::Passes
 }

@@ -4,7 +4,7 @@ use mathlib.Core.Path.{_≡_, sym, ap, _∙_}
 use mathlib.Core.List.{List}
 use Rattle.rules.specs.Graph.{Graph}
 use Rattle.rules.specs.Hierarchy.{EdgeCosts}
-use Rattle.tablet.specs.Numbers.{BuildNumbers, buildNumbers, CustomiseNumbers, customiseNumbers, DistanceNumbers, distanceNumbers, SweepNumbers, sweepNumbers, RouteNumbers, routeNumbers}
+use Rattle.tablet.specs.Numbers.{BuildNumbers, buildNumbers, CustomiseNumbers, customiseNumbers, ChangeNumbers, changeNumbers, DistanceNumbers, distanceNumbers, SweepNumbers, sweepNumbers, RouteNumbers, routeNumbers}
 
 pub build-once : {n n′ p p′ e e′ : ℕ} {rank rank′ : List ℕ} {G G′ : Graph} (told : BuildNumbers)
     → buildNumbers n p e rank G ≡ told → buildNumbers n′ p′ e′ rank′ G′ ≡ told
@@ -25,6 +25,18 @@ customise-once told a b =
       ap (λ (t : CustomiseNumbers). t .number) c,
       ap (λ (t : CustomiseNumbers). t .place) c,
       ap (λ (t : CustomiseNumbers). t .costs) c,
+    )
+
+pub change-once : {n n′ p p′ t t′ : ℕ} {costs costs′ : List ℕ} {C C′ : EdgeCosts} (told : ChangeNumbers)
+    → changeNumbers n p t costs C ≡ told → changeNumbers n′ p′ t′ costs′ C′ ≡ told
+    → (n ≡ n′) × (p ≡ p′) × (t ≡ t′) × (costs ≡ costs′) × (C ≡ C′)
+change-once told a b =
+    let c = a ∙ sym b in (
+      ap (λ (t : ChangeNumbers). t .number) c,
+      ap (λ (t : ChangeNumbers). t .place) c,
+      ap (λ (t : ChangeNumbers). t .triangles) c,
+      ap (λ (t : ChangeNumbers). t .arcCosts) c,
+      ap (λ (t : ChangeNumbers). t .costs) c,
     )
 
 pub distance-once : {n n′ p p′ d d′ : ℕ} (told : DistanceNumbers) → distanceNumbers n p d ≡ told → distanceNumbers n′ p′ d′ ≡ told

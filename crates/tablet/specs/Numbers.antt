@@ -4,8 +4,8 @@ use Prim.Native.Nat.{ℕ}
 use mathlib.Core.List.{List}
 use Rattle.rules.specs.Graph.{Graph}
 use Rattle.rules.specs.Hierarchy.{EdgeCosts}
-use Rattle.rules.specs.Replies.{numberTold, placeTold, edgesTold, distanceTold, arcsTold}
-use Rattle.rules.specs.Calls.{BuildLeaves, CustomiseLeaves, DistanceLeaves, SweepLeaves, RouteLeaves}
+use Rattle.rules.specs.Replies.{numberTold, placeTold, edgesTold, distanceTold, arcsTold, trianglesTold}
+use Rattle.rules.specs.Calls.{BuildLeaves, CustomiseLeaves, ChangeLeaves, DistanceLeaves, SweepLeaves, RouteLeaves}
 
 pub record BuildNumbers : Type 0 where
   pub number : ℕ
@@ -30,6 +30,19 @@ customiseNumbers n p C = record { number = n; place = p; costs = C }
 
 abbrev pub customiseTold : CustomiseLeaves → CustomiseNumbers
 customiseTold l = customiseNumbers (numberTold (l .reply)) (placeTold (l .reply)) (l .costs)
+
+pub record ChangeNumbers : Type 0 where
+  pub number : ℕ
+  pub place : ℕ
+  pub triangles : ℕ
+  pub arcCosts : List ℕ
+  pub costs : EdgeCosts
+
+abbrev pub changeNumbers : (number place triangles : ℕ) (arcCosts : List ℕ) (C : EdgeCosts) → ChangeNumbers
+changeNumbers n p t arcCosts C = record { number = n; place = p; triangles = t; arcCosts = arcCosts; costs = C }
+
+abbrev pub changeTold : ChangeLeaves → ChangeNumbers
+changeTold l = changeNumbers (numberTold (l .reply)) (placeTold (l .reply)) (trianglesTold (l .reply)) (l .arcCosts) (l .costs)
 
 pub record DistanceNumbers : Type 0 where
   pub number : ℕ

@@ -1,6 +1,6 @@
 -- The release, as one number: major * 10000 + minor * 100 + patch. Assumes nothing.
 use Prim.Native.Nat.{ℕ}
 
--- 1.2.0
+-- 1.3.0
 abbrev pub version : ℕ
-version = 10200
+version = 10300

@@ -2,22 +2,25 @@
 
 ghost use mathlib.Core.Path.{_≡_};
 ghost use Rattle.rules.specs.Net.{net};
-ghost use Rattle.rules.specs.Calls.{buildLeaves, customiseLeaves, distanceLeaves, sweepLeaves, routeLeaves};
+ghost use Rattle.rules.specs.Calls.{buildLeaves, customiseLeaves, changeLeaves, distanceLeaves, sweepLeaves, routeLeaves};
 ghost use Rattle.rules.specs.Graph.{graph};
 ghost use Rattle.rules.specs.Hierarchy.{edgeCosts};
 ghost use Rattle.rules.specs.declared.Direction.the-variants.{Up, Down};
 ghost use Rattle.tablet.specs.Version.{version};
-ghost use Rattle.tablet.specs.Numbers.{buildNumbers, buildTold, customiseNumbers, customiseTold, distanceNumbers, distanceToldOf, sweepNumbers, sweepTold, routeNumbers, routeTold};
+ghost use Rattle.tablet.specs.Numbers.{buildNumbers, buildTold, customiseNumbers, customiseTold, changeNumbers, changeTold, distanceNumbers, distanceToldOf, sweepNumbers, sweepTold, routeNumbers, routeTold};
 use griezmuld::build;
+use griezmuld::change;
 use griezmuld::customise;
 use griezmuld::distance;
 use griezmuld::route;
 use griezmuld::sweep_from;
 use griezmuld::sweep_to;
+use rules::Cost;
 use rules::Junction;
+use rules::wide;
 
 // The release that this archive is of, as include/griezmuld.h writes it: major * 10000 + minor * 100 + patch.
-pub const VERSION: u32 = 10200;
+pub const VERSION: u32 = 10300;
 
 // The release, for a program that compares it with its header's.
 #[no_mangle]
@@ -66,6 +69,43 @@ pub extern "C" fn griezmuld_customise(
     let customised = customise(tails, heads, costs, order, rank, first, row_heads, up, down);
     *place = customised.place() as u64;
     customised.number()
+}
+
+// A new cost of one arc.
+#[no_mangle]
+pub extern "C" fn griezmuld_change(
+    tails: &[u32],
+    heads: &[u32],
+    costs: &mut [u32],
+    order: &[u32],
+    rank: &[u32],
+    first: &[u32],
+    row_heads: &[u32],
+    up: &mut [u32],
+    down: &mut [u32],
+    arc: u32,
+    cost: u32,
+    place: &mut u64,
+    triangles: &mut u64,
+) -> u32
+    ensures { λ r. ⌜ changeNumbers r (now (place .exit)) (now (triangles .exit)) (now (costs .exit)) (edgeCosts (now (up .exit)) (now (down .exit))) ≡ changeTold (changeLeaves (net (now (tails .entry)) (now (heads .entry)) (now (costs .entry)) (now (order .entry))) (now (rank .entry)) (graph (now (first .entry)) (now («row_heads» .entry))) (edgeCosts (now (up .entry)) (now (down .entry))) arc cost) ⌝ }
+{
+    let changed = change(
+        tails,
+        heads,
+        costs,
+        order,
+        rank,
+        first,
+        row_heads,
+        up,
+        down,
+        wide(arc),
+        Cost(cost),
+    );
+    *place = changed.place() as u64;
+    *triangles = changed.triangles();
+    changed.number()
 }
 
 // The distance between two junctions.
