@@ -6,7 +6,7 @@ use mathlib.Core.List.{List, [], _∷_, _++_}
 use lib.Dec.{eqb, ltb}
 use lib.ListN.{length}
 use lib.Seq.{slice}
-use Rattle.rules.specs.Replies.{Reply, refused, edges, done, far, drive, noWalk}
+use Rattle.rules.specs.Replies.{Reply, refused, edges, done, far, drive, noWalk, looked}
 use Rattle.rules.specs.Net.{Net, net}
 use Rattle.rules.specs.Graph.{Graph, graph}
 use Rattle.rules.specs.Hierarchy.{edgeCosts}
@@ -190,6 +190,7 @@ builtReply N b = by (b .reply)
     by (far d) = far d
     by (drive d k) = drive d k
     by noWalk = noWalk
+    by (looked t) = looked t
 
 -- n junctions, as `answerRead` asks of them
 unfoldable pub netReply : (n : ℕ) (N : Net) → Reply
@@ -208,6 +209,7 @@ judged input done = Keeps
 judged input (far d) = Keeps
 judged input (drive d k) = Keeps
 judged input noWalk = Keeps
+judged input (looked t) = Keeps
 
 -- 14 where reading breaks off, else what build or customise refuses, else nothing
 unfoldable pub verdictRead : (input : List ℕ) → Program.Reading → Verdict

@@ -5,7 +5,7 @@ use mathlib.Core.List.{List, [], _∷_, _++_, map}
 use lib.Dec.{eqb, ltb, leb}
 use lib.ListN.{length, getD, replicate, take}
 use Rattle.rules.specs.Costs.{closed}
-use Rattle.rules.specs.Replies.{Reply, refused, edges, done, far, drive, noWalk}
+use Rattle.rules.specs.Replies.{Reply, refused, edges, done, far, drive, noWalk, looked}
 use Rattle.rules.specs.Net.{Net, net}
 use Rattle.rules.specs.Graph.{Graph, graph}
 use Rattle.rules.specs.Hierarchy.{EdgeCosts, edgeCosts}
@@ -225,6 +225,7 @@ replyLine from to left = decimal (suc from) ++ spaced (suc to ∷ []) ++ ending 
     ending (edges e) = lf ∷ []
     ending done = lf ∷ []
     ending (far d) = lf ∷ []
+    ending (looked t) = lf ∷ []
 
 -- "Heads room is 4,096, route room 256"; up and down have as many places as heads
 abbrev pub noughts : (n : ℕ) → List ℕ
@@ -250,6 +251,7 @@ answerCustomised N b e froms tos c = ending (c .reply)
     ending (far d) = []
     ending (drive d k) = []
     ending noWalk = []
+    ending (looked t) = []
 
 -- once the graph has been built
 unfoldable pub answerBuilt : (N : Net) (froms tos : List ℕ) (b : BuildLeaves) → List ℕ
@@ -264,6 +266,7 @@ answerBuilt N froms tos b = ending (b .reply)
     ending (far d) = []
     ending (drive d k) = []
     ending noWalk = []
+    ending (looked t) = []
 
 unfoldable pub answerRead : Reading → List ℕ
 unfolding answerBuilt refusedLine buildLeaves
