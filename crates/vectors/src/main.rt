@@ -1,6 +1,7 @@
 // Document 01's small examples and document 02's rules, run: what each call tells and what then stands in the lent lists, to be compared with the papers.
 
 use griezmuld::build;
+use griezmuld::change;
 use griezmuld::customise;
 use griezmuld::distance;
 use griezmuld::route;
@@ -8,6 +9,8 @@ use griezmuld::sweep_from;
 use griezmuld::sweep_to;
 use libc::STDOUT_FILENO;
 use rules::BuildAnswer;
+use rules::ChangeAnswer;
+use rules::Cost;
 use rules::DistanceAnswer;
 use rules::FillAnswer;
 use rules::Junction;
@@ -336,6 +339,133 @@ fn far_sweeps() {
     row_sweep(b"row, second edge 1, list 4:", 1, &mut [9; 4]);
 }
 
+// One line for a change: its name, the answer, the lists.
+fn show_change(name: &[u8], answer: ChangeAnswer, costs: &[u32], up: &[u32], down: &[u32]) {
+    tell(name, answer.number() as u64);
+    tell(b" at", answer.place() as u64);
+    tell(b", triangles", answer.triangles());
+    show(b", costs", costs);
+    show(b", up", up);
+    show(b", down", down);
+    io::write_all(STDOUT_FILENO, b"\n");
+}
+
+// Gives an arc another cost, on N4's graph with these arcs, and shows what is left.
+fn try_change(
+    name: &[u8],
+    tails: &[u32],
+    ends: &[u32],
+    costs: &mut [u32],
+    up: &mut [u32],
+    down: &mut [u32],
+    arc: usize,
+    cost: u32,
+) {
+    let order = [0u32, 1, 2, 3];
+    let answer = change(
+        tails,
+        ends,
+        costs,
+        &order,
+        &order,
+        &[0, 2, 4, 5, 5],
+        &[1, 2, 2, 3, 3],
+        up,
+        down,
+        arc,
+        Cost(cost),
+    );
+    show_change(name, answer, costs, up, down);
+}
+
+// The same with N4's arcs.
+fn change_n4(
+    name: &[u8],
+    arc: usize,
+    cost: u32,
+    costs: &mut [u32],
+    up: &mut [u32],
+    down: &mut [u32],
+) {
+    let tails = [1u32, 0, 2, 3, 1];
+    let ends = [0u32, 2, 3, 1, 3];
+    try_change(name, &tails, &ends, costs, up, down, arc, cost);
+}
+
+// "A driver shuts a road": arc 2 closed makes P2's costs P7's, and opened again the other way round; arc 0 is felt up to P2's entry 13. The place
+// past E is never touched.
+fn n4_changes() {
+    let shut = 4294967295u32;
+    let mut costs = [3u32, 4, 2, 6, 20];
+    let mut up = [shut, 4, 7, 20, 2, 9];
+    let mut down = [3, shut, shut, 6, 13];
+    change_n4(b"arc 2 shut:", 2, shut, &mut costs, &mut up, &mut down);
+    change_n4(b"arc 2 opened:", 2, 2, &mut costs, &mut up, &mut down);
+    change_n4(b"arc 0 at 5:", 0, 5, &mut costs, &mut up, &mut down);
+    change_n4(b"arc 0 at 3:", 0, 3, &mut costs, &mut up, &mut down);
+}
+
+// A cost that stays; 17, before 9; 9, with its arc: nothing changes.
+fn n4_unchanged() {
+    let shut = 4294967295u32;
+    let mut costs = [3u32, 4, 2, 6, 20];
+    let mut up = [shut, 4, 7, 20, 2];
+    let mut down = [3, shut, shut, 6, 13, 9];
+    change_n4(b"arc 2 at 2:", 2, 2, &mut costs, &mut up, &mut down);
+    change_n4(b"arc 5 at 0:", 5, 0, &mut costs, &mut up, &mut down);
+    change_n4(b"arc 2 at 0:", 2, 0, &mut costs, &mut up, &mut down);
+    change_n4(
+        b"arc 3 at 500001:",
+        3,
+        500001,
+        &mut costs,
+        &mut up,
+        &mut down,
+    );
+}
+
+// P8's net: arc 5 hides arc 4, so only the cost list changes; and hides it still when it is shut itself.
+fn hidden_changes(costs: &mut [u32], up: &mut [u32], down: &mut [u32]) {
+    let tails = [1u32, 0, 2, 3, 1, 1];
+    let ends = [0u32, 2, 3, 1, 3, 3];
+    let shut = 4294967295;
+    try_change(b"hidden arc 4:", &tails, &ends, costs, up, down, 4, 25);
+    try_change(b"arc 5 shut:", &tails, &ends, costs, up, down, 5, shut);
+}
+
+// Lists that nobody customised: "both costs by document 01's rule from those then standing, a sum of CLOSED or more being CLOSED; no other edge
+// changes".
+fn any_change(costs: &mut [u32], up: &mut [u32], down: &mut [u32]) {
+    let order = [0u32, 1, 2];
+    let answer = change(
+        &[1, 0],
+        &[0, 1],
+        costs,
+        &order,
+        &order,
+        &[0, 2, 3, 3],
+        &[1, 2, 2],
+        up,
+        down,
+        0,
+        Cost(7),
+    );
+    show_change(b"not customised:", answer, costs, up, down);
+}
+
+// The changes, each with lists of its own.
+fn changes() {
+    let shut = 4294967295u32;
+    n4_changes();
+    n4_unchanged();
+    hidden_changes(
+        &mut [3, 4, shut, 6, 20, 30],
+        &mut [shut, 4, 7, 30, shut],
+        &mut [3, shut, shut, 6, 13],
+    );
+    any_change(&mut [5, 9], &mut [6, 4294967290, 8, 77], &mut [5, 1, 2, 78]);
+}
+
 // One line for a route: its name, the answer, the list.
 fn show_route(name: &[u8], answer: RouteAnswer, list: &[u32]) {
     tell(name, answer.number() as u64);
@@ -396,5 +526,6 @@ fn main() {
     n4_distances();
     n4_sweeps();
     far_sweeps();
+    changes();
     n4_routes();
 }
