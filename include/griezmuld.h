@@ -1,10 +1,11 @@
 /*
  * Griezmuld: cheapest driving routes of milk tankers. For x86-64 Linux only: the archive is code for no other.
  *
- * Six calls. griezmuld_build makes a graph of shortcuts from the roads and an order of the junctions; it is called once
- * for an area. griezmuld_customise puts costs onto that graph; it is called whenever a cost changes. griezmuld_distance
- * and griezmuld_route then answer questions about two junctions; griezmuld_sweep_from and griezmuld_sweep_to list the
- * distances from one junction to all, and from all to one.
+ * Seven calls. griezmuld_build makes a graph of shortcuts from the roads and an order of the junctions; it is called once
+ * for an area. griezmuld_customise puts the costs of all arcs onto that graph; it is called once for a list of costs.
+ * griezmuld_change then gives one arc another cost: a driver closes a road, or opens it again, and need not wait for the
+ * whole area. griezmuld_distance and griezmuld_route answer questions about two junctions; griezmuld_sweep_from and
+ * griezmuld_sweep_to list the distances from one junction to all, and from all to one.
  *
  * The net
  *   Junctions are numbered 0 to n - 1. There are 1 to 4,096 of them.
@@ -32,25 +33,29 @@
  *
  * Stack
  *   What a call needs besides the lists it keeps on the stack. On the lists that ask most of it, measured for x86-64 to
- *   the next 16 KiB: build 128 KiB, customise 48 KiB, distance 80 KiB, either sweep 48 KiB, route 1,456 KiB. Of route's,
- *   some 160 KiB are always used; the rest is for shortcuts made of shortcuts, some 330 bytes for each inside another. They
- *   nest 4,000 deep only if the order is as bad as can be, but nothing forbids such an order: give the thread that calls
- *   route GRIEZMULD_ROUTE_STACK bytes. examples/c/thread.c does so.
+ *   the next 16 KiB: build 128 KiB, customise 48 KiB, change 1,184 KiB, distance 80 KiB, either sweep 48 KiB, route
+ *   1,472 KiB. Of change's, 176 KiB are enough for a graph of up to 65,536 edges; the rest is one bit for each edge that
+ *   there can be. Of route's, some 160 KiB are always used; the rest is for shortcuts made of shortcuts, some 330 bytes for
+ *   each inside another. They nest 4,000 deep only if the order is as bad as can be, but nothing forbids such an order:
+ *   give the thread that calls route GRIEZMULD_ROUTE_STACK bytes, which are enough for every other call too.
+ *   examples/c/thread.c does so.
  *
  * What a call costs
  *   Any lists may come in, so every call checks its lists anew, each time: a distance or a sweep goes once through order,
  *   rank, first and row_heads before it turns to the question itself, and a route through the arcs besides. On 4,096
  *   junctions with 12,794 arcs and 53,884 edges, on the machine of docs/BENCHMARKS.md, a distance takes some 0.2
- *   milliseconds, most of it checks, a route 0.5, build 0.4 and customise 2.2. Many distances from one junction, or to one,
- *   come cheaper by a sweep: it makes its checks once.
+ *   milliseconds, most of it checks, a route 0.6, build 0.5 and customise 3.5. A change takes 1.0 there, in the mean over
+ *   arcs chosen anyhow; the arc that takes longest takes half of customise's instructions. Where many costs change at once,
+ *   customise comes cheaper.
+ *   Many distances from one junction, or to one, come cheaper by a sweep: it makes its checks once.
  *
  * Replies
  *   Each call returns the number of a refusal: one of enum griezmuld_refusal, GRIEZMULD_ACCEPTED when it has accepted.
  *   griezmuld_refusal_text says each in words. A call makes its checks in the order given with it; the first that fails
  *   decides.
  *   It always writes *place: with 3, 8 and 9 the arc at fault, with 4 the position, with 16 the junction, the lowest if
- *   there are several; with any other refusal, and when accepted, 0. Its other numbers it always writes, too; after a
- *   refusal they are 0.
+ *   there are several; with 9 for a new cost the arc that was to get it; with any other refusal, and when accepted, 0. Its
+ *   other numbers it always writes, too; after a refusal they are 0.
  *   After a refusal every list is as it was, except: after 6, rank, first and row_heads are all 0; after 12 or 13 every
  *   place of the route list is 4,294,967,295; after 16 every place of distances is.
  *   Whatever the lists hold, a call returns, if its thread has the stack named above, and it writes nothing outside the
@@ -62,8 +67,8 @@
  *   first                 n + 1
  *   row_heads, up, down   at least E. E isn't known before build has run: it is at most n * (n - 1) / 2, and on a road map
  *                         with a good order some 3 to 15 times n. If row_heads was too short (6), lend a longer one.
- *   route                 at least the number of arcs of the route: n - 1 is enough where up and down were customised
- *                         for the costs at hand.
+ *   route                 at least the number of arcs of the route: n - 1 is enough where up and down are as customise
+ *                         or change left them for the costs at hand.
  *   distances             n
  *
  * An example, for two junctions with a road each way:
@@ -95,7 +100,7 @@ extern "C" {
 #endif
 
 /* The release that this header is of: major * 10000 + minor * 100 + patch. */
-#define GRIEZMULD_VERSION 10200u
+#define GRIEZMULD_VERSION 10300u
 
 /*
  * The cost of a closed arc, and of an edge that nobody can drive; what fills a route list where no arc stands, and
@@ -113,7 +118,7 @@ extern "C" {
 #define GRIEZMULD_MOST_JUNCTIONS 4096u
 #define GRIEZMULD_MOST_ARCS 16384u
 
-/* The stack, in bytes, to give a thread that calls griezmuld_route. */
+/* The stack, in bytes, to give a thread that calls griezmuld_route; it is enough for every call. */
 #define GRIEZMULD_ROUTE_STACK 2097152u
 
 /* What may be lent for a list of length 0: not NULL, aligned, never read and never written. */
@@ -135,13 +140,14 @@ enum griezmuld_refusal {
     GRIEZMULD_REFUSED_COST_LISTS = 10,
     GRIEZMULD_REFUSED_START_OR_TARGET = 11,
     GRIEZMULD_REFUSED_ROUTE_ROOM = 12,
-    /* up and down were not customised for these costs */
+    /* up and down are not what customise or change leaves for these costs */
     GRIEZMULD_REFUSED_PIECE_FITS_NOTHING = 13,
     /* by the program `route`, and by no call */
     GRIEZMULD_REFUSED_TEXT = 14,
     GRIEZMULD_REFUSED_DISTANCE_ROOM = 15,
-    /* never with up and down as customise left them */
-    GRIEZMULD_REFUSED_TOO_FAR = 16
+    /* never with up and down as customise or change left them */
+    GRIEZMULD_REFUSED_TOO_FAR = 16,
+    GRIEZMULD_REFUSED_ARC_NUMBER = 17
 };
 
 /* What a call returned, in words. They stay as long as the program runs. */
@@ -165,6 +171,7 @@ static inline const char *griezmuld_refusal_text(uint32_t number)
     case GRIEZMULD_REFUSED_TEXT: return "the program's text breaks its rules";
     case GRIEZMULD_REFUSED_DISTANCE_ROOM: return "distances isn't n long";
     case GRIEZMULD_REFUSED_TOO_FAR: return "a distance is 4,294,967,295 or more";
+    case GRIEZMULD_REFUSED_ARC_NUMBER: return "no arc has the number given";
     default: return "no refusal has this number";
     }
 }
@@ -208,8 +215,36 @@ uint32_t griezmuld_customise(
     uint64_t *place);
 
 /*
+ * Gives one arc another cost, GRIEZMULD_CLOSED to close it: writes costs[arc], and up and down where they hang on it. The
+ * three lists change together or not at all.
+ * With up and down as customise left them for these costs, they become what customise would leave for the new ones; so
+ * any number of changes may follow one another. On other lists the call works from what stands there: edges go by
+ * ascending lower end, and one is reconsidered if the arc that counts from one of its ends to the other has changed its
+ * cost, or if a position below both ends is joined to both and one of these two edges has just been changed. It gets both
+ * costs anew, by customise's rule, from those that then stand. No other edge changes, and no place past E.
+ * *triangles becomes the number of lower triangles looked at: one for each position below both ends of a reconsidered edge
+ * and joined to both. It is 0 where the arc's ends are equal, a later arc hides it, or it has that cost already.
+ * The costs are checked as they come in: one that is refused with 9 can't be mended by this call.
+ * Checks: 1, 2, 3, 4, 7, 8, 9, 10, 17, then 9 for the new cost.
+ */
+uint32_t griezmuld_change(
+    const uint32_t *tails, size_t tails_length,
+    const uint32_t *heads, size_t heads_length,
+    uint32_t *costs, size_t costs_length,
+    const uint32_t *order, size_t order_length,
+    const uint32_t *rank, size_t rank_length,
+    const uint32_t *first, size_t first_length,
+    const uint32_t *row_heads, size_t row_heads_length,
+    uint32_t *up, size_t up_length,
+    uint32_t *down, size_t down_length,
+    uint32_t arc,
+    uint32_t cost,
+    uint64_t *place,
+    uint64_t *triangles);
+
+/*
  * The distance from one junction to another, in tenths of a second: *distance, or GRIEZMULD_NO_WALK where no walk leads
- * there. With up and down as customise left them it is the least cost of any walk along open arcs.
+ * there. With up and down as customise left them, or change after it, it is the least cost of any walk along open arcs.
  * Checks: 1, 4, 7, 10, 11.
  */
 uint32_t griezmuld_distance(
@@ -259,7 +294,7 @@ uint32_t griezmuld_sweep_to(
 /*
  * The route from one junction to another: *distance as above, *arcs the number of arcs, and the arcs' numbers in driving
  * order in the route list. Its other places become 4,294,967,295, and all of them do where no walk leads there; *arcs is
- * then 0. Costs must be those that up and down were customised for; else the call may refuse with 13.
+ * then 0. Costs must be those that customise or change left up and down for; else the call may refuse with 13.
  * Checks: 1, 2, 3, 4, 7, 8, 9, 10, 11, then 12 and 13, whichever is met first on the way.
  */
 uint32_t griezmuld_route(

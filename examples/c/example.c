@@ -1,6 +1,7 @@
 /*
- * N4, the worked example of document 01, through the six calls: builds the graph, customises it, asks for some
- * distances and routes, prints a dairy's list of farms, then closes an arc and asks again. See run, beside this file.
+ * N4, the worked example of document 01: builds the graph, customises it, asks for some distances and routes, prints a
+ * dairy's list of farms, then closes an arc, customises with the new list of costs and asks again. closure.c changes the
+ * one cost instead. See run, beside this file.
  */
 #include "griezmuld.h"
 

@@ -1,13 +1,14 @@
 /*
- * Every refusal, brought about by a call: holds what the call returns to the header's name and place of it, and prints
- * each number with its words. See run, beside this file.
+ * Every refusal, brought about by a call: holds what the call returns to the header's name and place of it, holds the
+ * lists to what they were where the header says so, and prints each number with its words. See run, beside this file.
  */
 #include "griezmuld.h"
 
 #include <inttypes.h>
 #include <stdio.h>
+#include <string.h>
 
-enum { JUNCTIONS = 3, ARCS = 2, EDGES = 2, OTHER = 17 };
+enum { JUNCTIONS = 3, ARCS = 2, EDGES = 2, OTHER = 18 };
 
 /* All lists of a net, and the lengths that some call is to be told wrongly. */
 struct lists {
@@ -15,7 +16,7 @@ struct lists {
     uint32_t rank[JUNCTIONS], first[JUNCTIONS + 1], row_heads[EDGES], up[EDGES], down[EDGES];
     uint32_t route[ARCS], distances[JUNCTIONS];
     size_t tails_length, order_length, rank_length, row_heads_length, up_length, route_length, distances_length;
-    uint32_t from, to;
+    uint32_t from, to, arc, cost;
 };
 
 /* Junction 0 to 1 to 2, one way, with its graph and costs: every call accepts it. */
@@ -24,9 +25,9 @@ static const struct lists road = {
     {0, 1, 2}, {0, 1, 2, 2}, {1, 2}, {120, 150}, {GRIEZMULD_CLOSED, GRIEZMULD_CLOSED},
     {0, 0}, {0, 0, 0},
     ARCS, JUNCTIONS, JUNCTIONS, EDGES, EDGES, ARCS, JUNCTIONS,
-    0, 2};
+    0, 2, 1, GRIEZMULD_CLOSED};
 
-enum call { BUILD, CUSTOMISE, DISTANCE, SWEEP_FROM, SWEEP_TO, ROUTE, CALLS };
+enum call { BUILD, CUSTOMISE, CHANGE, DISTANCE, SWEEP_FROM, SWEEP_TO, ROUTE, CALLS };
 
 static uint32_t run(enum call call, struct lists *l, uint64_t *place)
 {
@@ -40,6 +41,11 @@ static uint32_t run(enum call call, struct lists *l, uint64_t *place)
         return griezmuld_customise(
             l->tails, l->tails_length, l->heads, ARCS, l->costs, ARCS, l->order, l->order_length, l->rank, l->rank_length,
             l->first, JUNCTIONS + 1, l->row_heads, l->row_heads_length, l->up, l->up_length, l->down, EDGES, place);
+    case CHANGE:
+        return griezmuld_change(
+            l->tails, l->tails_length, l->heads, ARCS, l->costs, ARCS, l->order, l->order_length, l->rank, l->rank_length,
+            l->first, JUNCTIONS + 1, l->row_heads, l->row_heads_length, l->up, l->up_length, l->down, EDGES,
+            l->arc, l->cost, place, &number);
     case DISTANCE:
         return griezmuld_distance(
             l->order, l->order_length, l->rank, l->rank_length, l->first, JUNCTIONS + 1,
@@ -77,6 +83,7 @@ static enum call spoil(struct lists *l, enum griezmuld_refusal fault)
     case GRIEZMULD_REFUSED_PIECE_FITS_NOTHING: l->costs[0] = 121; return ROUTE;
     case GRIEZMULD_REFUSED_DISTANCE_ROOM: l->distances_length = JUNCTIONS - 1; return SWEEP_FROM;
     case GRIEZMULD_REFUSED_TOO_FAR: l->up[0] = GRIEZMULD_CLOSED - 1; return SWEEP_FROM;
+    case GRIEZMULD_REFUSED_ARC_NUMBER: l->arc = ARCS; return CHANGE;
     default: return CALLS;
     }
 }
@@ -94,15 +101,50 @@ static uint64_t place_of(enum griezmuld_refusal fault)
     }
 }
 
-/* Whether a call on lists with a fault returns another number or place than it has to. */
+/* Whether after this refusal every list is as it was. */
+static int leaves_lists(enum griezmuld_refusal fault)
+{
+    switch (fault) {
+    case GRIEZMULD_ACCEPTED:
+    case GRIEZMULD_REFUSED_HEADS_ROOM:
+    case GRIEZMULD_REFUSED_ROUTE_ROOM:
+    case GRIEZMULD_REFUSED_PIECE_FITS_NOTHING:
+    case GRIEZMULD_REFUSED_TOO_FAR: return 0;
+    default: return 1;
+    }
+}
+
+/* Whether a call on lists with a fault returns another number or place than it has to, or writes to a list that it may not. */
 static int wrong(enum call call, struct lists lists, enum griezmuld_refusal fault)
 {
+    struct lists before = lists;
     uint64_t place;
     uint32_t number = run(call, &lists, &place);
-    if (number == (uint32_t)fault && place == place_of(fault))
-        return 0;
-    printf("expected %d, place %" PRIu64 "; found %" PRIu32 ", place %" PRIu64 "\n", (int)fault, place_of(fault), number, place);
-    return 1;
+    if (number != (uint32_t)fault || place != place_of(fault)) {
+        printf("expected %d, place %" PRIu64 "; found %" PRIu32 ", place %" PRIu64 "\n", (int)fault, place_of(fault), number, place);
+        return 1;
+    }
+    size_t all = offsetof(struct lists, distances) + sizeof lists.distances;
+    if (leaves_lists(fault) && memcmp(&lists, &before, all) != 0) {
+        printf("a list is not as it was after %d\n", (int)fault);
+        return 1;
+    }
+    return 0;
+}
+
+/* Whether a refusal of change is not as it has to be: a new cost that is too dear or nothing, and what comes before it. */
+static int wrong_change(void)
+{
+    struct lists spoilt = road;
+    spoilt.cost = GRIEZMULD_GREATEST_COST + 1;
+    int failed = wrong(CHANGE, spoilt, GRIEZMULD_REFUSED_ARC_COST);
+    spoilt.cost = 0;
+    failed |= wrong(CHANGE, spoilt, GRIEZMULD_REFUSED_ARC_COST);
+    spoilt.arc = ARCS;
+    failed |= wrong(CHANGE, spoilt, GRIEZMULD_REFUSED_ARC_NUMBER);
+    spoilt.costs[1] = 0;
+    failed |= wrong(CHANGE, spoilt, GRIEZMULD_REFUSED_ARC_COST);
+    return failed;
 }
 
 int main(void)
@@ -117,5 +159,5 @@ int main(void)
             failed |= wrong(call, spoilt, (enum griezmuld_refusal)number);
         printf("%" PRIu32 ": %s\n", number, griezmuld_refusal_text(number));
     }
-    return failed;
+    return failed | wrong_change();
 }

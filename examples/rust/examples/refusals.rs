@@ -1,11 +1,11 @@
 //! Every refusal, brought about by a call: prints its number and its words, as examples/c/refusals.c does.
 
 use griezmuld::{
-    Arcs, Built, CostRoom, Costs, Distance, Filled, Graph, GraphRoom, Refusal, Roads, Route, Way,
-    CLOSED,
+    Arcs, Built, Changed, CostRoom, Costs, Distance, Filled, Graph, GraphRoom, Refusal, RoadRoom,
+    Roads, Route, Way, CLOSED,
 };
 
-/// All lists of a net, and two junctions.
+/// All lists of a net, two junctions, and an arc with its new cost.
 #[derive(Clone)]
 struct Lists {
     tails: Vec<u32>,
@@ -21,6 +21,8 @@ struct Lists {
     distances: Vec<u32>,
     from: u32,
     to: u32,
+    arc: u32,
+    cost: u32,
 }
 
 /// A call on lists: why it refused, if it did.
@@ -43,6 +45,8 @@ impl Lists {
             distances: vec![0; 3],
             from: 0,
             to: 2,
+            arc: 1,
+            cost: CLOSED,
         }
     }
 
@@ -95,6 +99,22 @@ fn customise(lists: Lists) -> Option<Refusal> {
     why_unfilled(griezmuld::customise(lists.roads(), lists.graph(), room))
 }
 
+fn change(lists: Lists) -> Option<Refusal> {
+    let mut room = lists.clone();
+    let roads = RoadRoom {
+        arcs: lists.roads().arcs,
+        costs: &mut room.costs,
+    };
+    let edges = CostRoom {
+        up: &mut room.up,
+        down: &mut room.down,
+    };
+    match griezmuld::change(roads, lists.graph(), edges, lists.arc, lists.cost) {
+        Changed::Triangles(_) => None,
+        Changed::Refused(refusal) => Some(refusal),
+    }
+}
+
 fn distance(lists: Lists) -> Option<Refusal> {
     let (graph, costs) = (lists.graph(), lists.edge_costs());
     match griezmuld::distance(graph, costs, lists.from, lists.to) {
@@ -136,7 +156,7 @@ fn why_unfilled(answer: Filled) -> Option<Refusal> {
 /// A refusal, the fault that brings it about, and the call that refuses.
 type Fault = (Refusal, fn(&mut Lists), Call);
 
-const FAULTS: [Fault; 15] = [
+const FAULTS: [Fault; 16] = [
     (Refusal::JunctionCount, |l| l.order.clear(), build),
     (Refusal::ArcLists, |l| l.tails.truncate(1), build),
     (Refusal::ArcEnd(1), |l| l.heads[1] = 3, build),
@@ -160,10 +180,13 @@ const FAULTS: [Fault; 15] = [
         sweep_from,
     ),
     (Refusal::TooFar(2), |l| l.up[0] = CLOSED - 1, sweep_from),
+    (Refusal::ArcNumber, |l| l.arc = 2, change),
 ];
 
 fn main() {
-    for call in [build, customise, distance, sweep_from, sweep_to, route] {
+    for call in [
+        build, customise, change, distance, sweep_from, sweep_to, route,
+    ] {
         assert_eq!(call(Lists::road()), None, "the lists without a fault");
     }
     for (refusal, spoil, call) in FAULTS {

@@ -36,6 +36,8 @@ pub enum Refusal {
     DistanceRoom,
     /// 16: the distance of this junction is CLOSED or more.
     TooFar(u64),
+    /// 17: no arc has the number given.
+    ArcNumber,
     /// A number that include/griezmuld.h doesn't have.
     Unheard {
         /// The number told.
@@ -63,6 +65,7 @@ impl Refusal {
             13 => Refusal::PieceFitsNothing,
             15 => Refusal::DistanceRoom,
             16 => Refusal::TooFar(place),
+            17 => Refusal::ArcNumber,
             _ => Refusal::Unheard { number, place },
         }
     }
@@ -85,6 +88,7 @@ impl Refusal {
             Refusal::PieceFitsNothing => 13,
             Refusal::DistanceRoom => 15,
             Refusal::TooFar(_) => 16,
+            Refusal::ArcNumber => 17,
             Refusal::Unheard { number, .. } => number,
         }
     }
@@ -124,6 +128,7 @@ impl fmt::Display for Refusal {
             }
             Refusal::DistanceRoom => "distances isn't n long",
             Refusal::TooFar(_) => "a distance is 4,294,967,295 or more",
+            Refusal::ArcNumber => "no arc has the number given",
             Refusal::Unheard { .. } => "no refusal has this number",
         })
     }
@@ -143,6 +148,15 @@ pub enum Built {
 pub enum Filled {
     /// The lists stand.
     Done,
+    /// Why not.
+    Refused(Refusal),
+}
+
+/// What change answers.
+#[derive(Clone, Copy, Debug, PartialEq, Eq)]
+pub enum Changed {
+    /// The lists stand; so many lower triangles of reconsidered edges were looked at.
+    Triangles(u64),
     /// Why not.
     Refused(Refusal),
 }
@@ -188,6 +202,15 @@ impl From<Told> for Filled {
         match told.number {
             0 => Filled::Done,
             number => Filled::Refused(Refusal::new(number, told.place)),
+        }
+    }
+}
+
+impl From<Told> for Changed {
+    fn from(told: Told) -> Changed {
+        match told.number {
+            0 => Changed::Triangles(told.triangles),
+            number => Changed::Refused(Refusal::new(number, told.place)),
         }
     }
 }

@@ -1,8 +1,8 @@
 //! The calls with their answers as enums.
 
-use crate::answers::{Built, Distance, Filled, Route};
+use crate::answers::{Built, Changed, Distance, Filled, Route};
 use crate::told;
-use slices::{Arcs, CostRoom, Costs, Graph, GraphRoom, Roads, Way};
+use slices::{Arcs, CostRoom, Costs, Graph, GraphRoom, RoadRoom, Roads, Way};
 
 /// The archive that was linked: its file's name and size.
 pub const LINKED: &str = env!("GRIEZMULD_LINKED");
@@ -15,6 +15,11 @@ pub fn build(arcs: Arcs, order: &[u32], room: GraphRoom) -> Built {
 /// Puts costs onto the graph.
 pub fn customise(roads: Roads, graph: Graph, room: CostRoom) -> Filled {
     Filled::from(told::customise(roads, graph, room))
+}
+
+/// Gives one arc another cost, in the cost list and on the graph, together or not at all.
+pub fn change(roads: RoadRoom, graph: Graph, room: CostRoom, arc: u32, cost: u32) -> Changed {
+    Changed::from(told::change(roads, graph, room, arc, cost))
 }
 
 /// The distance between two junctions.

@@ -30,6 +30,22 @@ extern "C" {
         place: *mut u64,
     ) -> u32;
 
+    pub fn griezmuld_change(
+        tails: *const u32, tails_length: usize,
+        heads: *const u32, heads_length: usize,
+        costs: *mut u32, costs_length: usize,
+        order: *const u32, order_length: usize,
+        rank: *const u32, rank_length: usize,
+        first: *const u32, first_length: usize,
+        row_heads: *const u32, row_heads_length: usize,
+        up: *mut u32, up_length: usize,
+        down: *mut u32, down_length: usize,
+        arc: u32,
+        cost: u32,
+        place: *mut u64,
+        triangles: *mut u64,
+    ) -> u32;
+
     pub fn griezmuld_distance(
         order: *const u32, order_length: usize,
         rank: *const u32, rank_length: usize,

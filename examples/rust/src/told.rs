@@ -3,7 +3,7 @@
 #![allow(unsafe_code)]
 
 use crate::foreign;
-use slices::{Arcs, CostRoom, Costs, Graph, GraphRoom, Roads, Told, Way};
+use slices::{Arcs, CostRoom, Costs, Graph, GraphRoom, RoadRoom, Roads, Told, Way};
 
 /// What stands in a number's place before a call that has to write it.
 const UNWRITTEN: u64 = 0x0123_4567_89ab_cdef;
@@ -83,6 +83,34 @@ pub fn customise(roads: Roads, graph: Graph, room: CostRoom) -> Told {
     Told {
         number,
         place: place.read(),
+        ..Told::default()
+    }
+}
+
+/// griezmuld_change
+pub fn change(roads: RoadRoom, graph: Graph, room: CostRoom, arc: u32, cost: u32) -> Told {
+    let (mut place, mut triangles) = (Cell::new(), Cell::new());
+    // SAFETY: as in build
+    #[rustfmt::skip]
+    let number = unsafe {
+        foreign::griezmuld_change(
+            roads.arcs.tails.as_ptr(), roads.arcs.tails.len(),
+            roads.arcs.heads.as_ptr(), roads.arcs.heads.len(),
+            roads.costs.as_mut_ptr(), roads.costs.len(),
+            graph.order.as_ptr(), graph.order.len(),
+            graph.rank.as_ptr(), graph.rank.len(),
+            graph.first.as_ptr(), graph.first.len(),
+            graph.row_heads.as_ptr(), graph.row_heads.len(),
+            room.up.as_mut_ptr(), room.up.len(),
+            room.down.as_mut_ptr(), room.down.len(),
+            arc, cost,
+            place.pointer(), triangles.pointer(),
+        )
+    };
+    Told {
+        number,
+        place: place.read(),
+        triangles: triangles.read(),
         ..Told::default()
     }
 }

@@ -1,7 +1,7 @@
 //! What the calls get and write, as structs of slices, and the numbers that they tell: each list is named once, here.
 //!
 //! Build gets [`Arcs`] and the order, and writes a [`GraphRoom`]. Customise gets [`Roads`] and the [`Graph`], and
-//! writes a [`CostRoom`]. Distance gets the graph and its [`Costs`]; route gets the roads too, and writes a route list;
+//! writes a [`CostRoom`]; change gets a [`RoadRoom`], and writes the arcs' costs too. Distance gets the graph and its [`Costs`]; route gets the roads too, and writes a route list;
 //! the sweeps get what distance gets, with one junction and a [`Way`], and write a distance list.
 
 #![forbid(unsafe_code)]
@@ -22,6 +22,14 @@ pub struct Roads<'a> {
     pub arcs: Arcs<'a>,
     /// The arcs' costs.
     pub costs: &'a [u32],
+}
+
+/// The arcs with their costs, of which change writes one.
+pub struct RoadRoom<'a> {
+    /// The arcs.
+    pub arcs: Arcs<'a>,
+    /// The arcs' costs.
+    pub costs: &'a mut [u32],
 }
 
 /// The order and what build wrote for it.
@@ -56,7 +64,7 @@ pub struct Costs<'a> {
     pub down: &'a [u32],
 }
 
-/// What customise writes.
+/// What customise writes, and change in part.
 pub struct CostRoom<'a> {
     /// The up costs.
     pub up: &'a mut [u32],
@@ -86,4 +94,6 @@ pub struct Told {
     pub distance: u64,
     /// The number of arcs, by route: 0 for "none" and after a refusal.
     pub arcs: u64,
+    /// How many lower triangles of reconsidered edges were looked at, by change; 0 after a refusal.
+    pub triangles: u64,
 }
