@@ -6,7 +6,7 @@ pub use griezmuld::told;
 #[cfg(feature = "standin")]
 pub use standin as told;
 
-pub use griezmuld::{Built, Distance, Filled, Refusal, Route};
+pub use griezmuld::{Built, Changed, Distance, Filled, Refusal, Route};
 
 /// What was linked, in words.
 pub fn linked() -> String {

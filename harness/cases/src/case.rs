@@ -19,6 +19,15 @@ pub struct Damage {
     pub cost: u32,
 }
 
+/// One arc that gets another cost.
+#[derive(Clone, Copy, Debug, PartialEq, Eq)]
+pub struct Change {
+    /// The arc.
+    pub arc: usize,
+    /// Its new cost.
+    pub cost: u32,
+}
+
 /// A net, and what is to be tried on it.
 #[derive(Clone, Debug, PartialEq, Eq)]
 pub struct Case {
@@ -38,6 +47,8 @@ pub struct Case {
     pub later: Vec<u32>,
     /// What happens to the customised costs.
     pub damage: Vec<Damage>,
+    /// Arcs that change one after the other.
+    pub changes: Vec<Change>,
     /// Spare places in the rooms for heads, up, down and the route.
     pub spare: [usize; 4],
     /// Where the choice of pairs and rooms comes from.
@@ -56,8 +67,28 @@ impl Case {
             besides: Vec::new(),
             later: net.costs.clone(),
             damage: Vec::new(),
+            changes: Vec::new(),
             spare: [1, 1, 2, 1],
             seed: 1,
+        }
+    }
+
+    /// Has some arcs change, one after the other, as the seed says. Often one that has changed before.
+    pub fn change_some(&mut self, count: usize) {
+        let mut source = Source::nth(self.seed, 1);
+        let mut costs = self.costs.clone();
+        self.changes.clear();
+        if costs.is_empty() {
+            return;
+        }
+        for _ in 0..count {
+            let arc = match self.changes.is_empty() || source.percent(70) {
+                true => source.below(costs.len()),
+                false => source.pick(&self.changes).arc,
+            };
+            costs[arc] = new_cost(self.costs[arc], costs[arc], &mut source);
+            let cost = costs[arc];
+            self.changes.push(Change { arc, cost });
         }
     }
 
@@ -103,6 +134,10 @@ impl fmt::Display for Case {
             let list = if damage.upward { "up" } else { "down" };
             let (place, cost) = (damage.place, shown(damage.cost));
             writeln!(to, "  damage: {list} at place {place} becomes {cost}")?;
+        }
+        for change in &self.changes {
+            let (arc, cost) = (change.arc, shown(change.cost));
+            writeln!(to, "  change: arc {arc} gets {cost}")?;
         }
         let [heads, up, down, route] = self.spare;
         write!(
@@ -210,6 +245,19 @@ fn any_cost(style: usize, source: &mut Source) -> u32 {
     }
 }
 
+/// Another cost for an arc, by what it was at first and what it is now: closed, opened, a little more or less, anything,
+/// or the same again.
+fn new_cost(first: u32, now: u32, source: &mut Source) -> u32 {
+    match source.below(8) {
+        0 | 1 => CLOSED,
+        2 | 3 => first,
+        4 => (now % CLOSED).saturating_add(1).min(500_000),
+        5 => (now % CLOSED).saturating_sub(1).clamp(1, 500_000),
+        6 => source.pick(&[1, 2, 3, 500_000, now]),
+        _ => source.between(1, 20) as u32,
+    }
+}
+
 fn set_costs(net: &mut Net, source: &mut Source) {
     let style = source.below(5);
     let closed = source.pick(&[0, 0, 3, 10, 30, 80]);
@@ -278,6 +326,8 @@ fn add_trials(case: &mut Case, source: &mut Source) {
     if source.percent(70) {
         add_damage(case, source);
     }
+    let count = if case.n <= 60 { 10 } else { 3 };
+    case.change_some(count);
 }
 
 fn add_damage(case: &mut Case, source: &mut Source) {
@@ -399,5 +449,6 @@ pub fn closures(net: &Net, order: Vec<u32>, source: &mut Source) -> Case {
             *cost = CLOSED;
         }
     }
+    case.change_some(6);
     case
 }

@@ -4,4 +4,4 @@ pub mod case;
 pub mod shrink;
 pub mod words;
 
-pub use case::{closures, large, small, Case, Damage};
+pub use case::{closures, large, small, Case, Change, Damage};

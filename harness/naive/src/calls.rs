@@ -1,5 +1,6 @@
 //! All that each call has to reply and to leave, for any lists.
 
+use crate::changed::{Change, EdgeCosts};
 use crate::customised::customised;
 use crate::graph::Graph;
 use crate::labels::{labels, meeting, Held, Label, Meeting, Way};
@@ -22,6 +23,8 @@ pub struct Told {
     pub distance: u64,
     /// The number of arcs of the route.
     pub arcs: u64,
+    /// The number of lower triangles, by change.
+    pub triangles: u64,
 }
 
 impl From<Refusal> for Told {
@@ -220,6 +223,60 @@ fn customise_refusal(map: Roadmap, rows: Rows, held: Costs) -> Option<Refusal> {
             let fault = refusals::cost_lists(first[n] as usize, held.up, held.down);
             refusal(10, fault)
         })
+}
+
+// ---- change
+
+/// What change leaves.
+#[derive(Clone, Debug, PartialEq, Eq)]
+pub struct ChangeLeaves {
+    /// The numbers told.
+    pub told: Told,
+    /// The arcs' costs.
+    pub costs: Vec<u32>,
+    /// The up list.
+    pub up: Vec<u32>,
+    /// The down list.
+    pub down: Vec<u32>,
+}
+
+/// "Refusals: customise's on the lists as they stand, then 17 for an unlisted arc number, then 9 for the new cost (place
+/// the arc)"; "the cost list and shortcut costs change together or not at all".
+pub fn change(map: Roadmap, rows: Rows, held: Costs, arc: u32, cost: u32) -> ChangeLeaves {
+    let Roadmap { tails, heads, .. } = map;
+    let refused = customise_refusal(map, rows, held)
+        .or_else(|| refusal(17, refusals::arc_number(tails.len(), arc)))
+        .or_else(|| refusal(9, refusals::new_cost(arc, cost)));
+    let old = EdgeCosts {
+        up: held.up.to_vec(),
+        down: held.down.to_vec(),
+    };
+    let mut costs = map.costs.to_vec();
+    if let Some(refused) = refused {
+        return ChangeLeaves {
+            told: refused.into(),
+            costs,
+            up: old.up,
+            down: old.down,
+        };
+    }
+    costs[arc as usize] = cost;
+    let change = Change {
+        graph: &Graph::of_lists(map.order.len(), rows.first, rows.row_heads),
+        order: map.order,
+        before: &Roads::of(tails, heads, map.costs),
+        after: &Roads::of(tails, heads, &costs),
+    };
+    let (left, triangles) = change.carry(&old);
+    ChangeLeaves {
+        told: Told {
+            triangles,
+            ..Told::default()
+        },
+        costs,
+        up: left.up,
+        down: left.down,
+    }
 }
 
 // ---- distance
@@ -531,6 +588,113 @@ mod tests {
         assert_eq!(drive.route, [0, 1, 2, CLOSED]);
         let short = route(N4, rows, costs, 1, 3, &[7; 2]);
         assert_eq!((short.told.number, short.route), (12, vec![CLOSED; 2]));
+    }
+
+    /// N4's lists after a change, and the lists that customise leaves for the costs then standing.
+    fn after_change(
+        map: Roadmap,
+        held: Costs,
+        arc: u32,
+        cost: u32,
+    ) -> (ChangeLeaves, CustomiseLeaves) {
+        let (built, _) = worked();
+        let left = change(map, built.rows(), held, arc, cost);
+        let map = Roadmap {
+            costs: &left.costs,
+            ..map
+        };
+        let afresh = customise(map, built.rows(), held);
+        (left, afresh)
+    }
+
+    #[test]
+    fn closing_arc_2_of_n4_leaves_p7_and_opening_it_p2() {
+        let (_, p2) = worked();
+        let (shut, p7) = after_change(N4, p2.held(), 2, CLOSED);
+        assert_eq!(shut.costs, [3, 4, CLOSED, 6, 20]);
+        assert_eq!((&shut.up, &shut.down), (&p7.up, &p7.down));
+        assert_eq!(shut.up, [CLOSED, 4, 7, 20, CLOSED]);
+        assert_eq!(shut.down, [3, CLOSED, CLOSED, 6, 13, CLOSED]);
+        assert_eq!((shut.told.number, shut.told.triangles), (0, 1));
+
+        let costs = &shut.costs[..];
+        let (open, _) = after_change(Roadmap { costs, ..N4 }, p7.held(), 2, 2);
+        assert_eq!((open.costs.as_slice(), open.told.triangles), (N4.costs, 1));
+        assert_eq!((open.up, open.down), (p2.up, p2.down));
+    }
+
+    #[test]
+    fn what_changes_is_carried_upward() {
+        // 1 to 0 at 5 makes 1 to 2 cost 9, over 0, and 3 to 2 cost 15, over 1: one lower triangle each
+        let (_, p2) = worked();
+        let (left, afresh) = after_change(N4, p2.held(), 0, 5);
+        assert_eq!(left.up, [CLOSED, 4, 9, 20, 2]);
+        assert_eq!(left.down, [5, CLOSED, CLOSED, 6, 15, CLOSED]);
+        assert_eq!((left.up, left.down), (afresh.up, afresh.down));
+        assert_eq!(left.told.triangles, 2);
+    }
+
+    #[test]
+    fn a_hidden_arc_and_an_equal_cost_change_the_cost_list_alone() {
+        let (built, _) = worked();
+        let p8 = Roadmap {
+            tails: &[1, 0, 2, 3, 1, 1],
+            heads: &[0, 2, 3, 1, 3, 3],
+            costs: &[3, 4, CLOSED, 6, 20, 30],
+            order: N4.order,
+        };
+        let damaged = Costs {
+            up: &[1, 2, 3, 4, 5],
+            down: &[6, 7, 8, 9, 10, 11],
+        };
+        for (arc, cost, costs) in [
+            (4, 25, [3, 4, CLOSED, 6, 25, 30]),
+            (5, 30, [3, 4, CLOSED, 6, 20, 30]),
+        ] {
+            let left = change(p8, built.rows(), damaged, arc, cost);
+            assert_eq!((left.told, left.costs), (Told::default(), costs.to_vec()));
+            assert_eq!((&left.up[..], &left.down[..]), (damaged.up, damaged.down));
+        }
+    }
+
+    #[test]
+    fn on_damaged_costs_a_sum_of_closed_or_more_is_closed_and_no_other_edge_changes() {
+        let (built, _) = worked();
+        // 3 to 2 costs 3 to 1 and 1 to 2
+        for (one_to_two, three_to_two) in [
+            (CLOSED - 7, CLOSED - 1),
+            (CLOSED - 6, CLOSED),
+            (CLOSED - 5, CLOSED),
+        ] {
+            let (up, down) = ([1, 2, one_to_two, 4, 5, 77], [0, 7, 8, 6, 10, 78]);
+            let (up, down) = (&up, &down);
+            let left = change(N4, built.rows(), Costs { up, down }, 2, 9);
+            assert_eq!(left.up, [1, 2, one_to_two, 4, 9, 77]);
+            assert_eq!(left.down, [0, 7, 8, 6, three_to_two, 78]);
+            assert_eq!(left.told.triangles, 1);
+        }
+    }
+
+    #[test]
+    fn a_standing_cost_is_refused_before_an_arc_number_and_that_before_a_new_cost() {
+        let (built, p2) = worked();
+        let dear = Roadmap {
+            costs: &[3, 4, 2, 0, 500_001],
+            ..N4
+        };
+        for (map, arc, cost, number, place) in [
+            (dear, 5, 0, 9, 3),
+            (N4, 5, 0, 17, 0),
+            (N4, CLOSED, 7, 17, 0),
+            (N4, 4, 0, 9, 4),
+            (N4, 3, 500_001, 9, 3),
+            (N4, 3, CLOSED - 1, 9, 3),
+        ] {
+            let left = change(map, built.rows(), p2.held(), arc, cost);
+            assert_eq!((left.told.number, left.told.place), (number, place));
+            assert_eq!(left.costs, map.costs);
+            assert_eq!((left.up, left.down), (p2.up.clone(), p2.down.clone()));
+        }
     }
 
     #[test]

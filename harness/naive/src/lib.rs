@@ -7,6 +7,7 @@
 
 pub mod calls;
 pub mod causes;
+pub mod changed;
 pub mod customised;
 pub mod graph;
 pub mod hierarchy;

@@ -82,9 +82,16 @@ pub fn arcs_without_edge(
 
 /// 9: "an arc cost is 0, or over 500,000 and not CLOSED"
 pub fn arc_costs(costs: &[u32]) -> Option<usize> {
-    costs
-        .iter()
-        .position(|&cost| cost == 0 || (cost > 500_000 && cost != CLOSED))
+    costs.iter().position(|&cost| is_unlawful(cost))
+}
+
+fn is_unlawful(cost: u32) -> bool {
+    cost == 0 || (cost > 500_000 && cost != CLOSED)
+}
+
+/// "9 for the new cost (place the arc)"
+pub fn new_cost(arc: u32, cost: u32) -> Option<usize> {
+    is_unlawful(cost).then_some(arc as usize)
 }
 
 /// 10: "up or down list is shorter than E"
@@ -106,4 +113,9 @@ pub fn distance_list(n: usize, distances: &[u32]) -> Option<usize> {
 pub fn too_far(far: &[Option<u64>]) -> Option<usize> {
     far.iter()
         .position(|far| far.is_some_and(|far| far >= u64::from(CLOSED)))
+}
+
+/// 17: "an unlisted arc number"
+pub fn arc_number(arcs: usize, arc: u32) -> Option<usize> {
+    at_0(arc as usize >= arcs)
 }

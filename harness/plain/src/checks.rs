@@ -72,6 +72,11 @@ pub fn arc_costs(costs: &[u32]) -> Result<(), Refusal> {
     Ok(())
 }
 
+/// 9 for a new cost
+pub fn new_cost(arc: u32, cost: u32) -> Result<(), Refusal> {
+    arc_costs(&[cost]).map_err(|_| Refusal::ArcCost(arc as usize))
+}
+
 /// 10
 pub fn cost_lists(edges: usize, up: &[u32], down: &[u32]) -> Result<(), Refusal> {
     if up.len() < edges || down.len() < edges {
@@ -92,6 +97,14 @@ pub fn question(n: usize, from: u32, to: u32) -> Result<(), Refusal> {
 pub fn distance_list(n: usize, distances: &[u32]) -> Result<(), Refusal> {
     if distances.len() != n {
         return Err(Refusal::DistanceRoom);
+    }
+    Ok(())
+}
+
+/// 17
+pub fn arc_number(arcs: usize, arc: u32) -> Result<(), Refusal> {
+    if arc as usize >= arcs {
+        return Err(Refusal::ArcNumber);
     }
     Ok(())
 }

@@ -1,7 +1,8 @@
 //! The calls in plain safe Rust, with all checks and without a heap: what the library is measured against.
 //!
 //! It uses the same methods as the library (rows of the parent tree, chains of indices in stack arrays, labels along
-//! the chain of parents, then down over all positions) and is held to the same rules by the same runs.
+//! the chain of parents, then down over all positions; a change along that chain) and is held to the same rules by the
+//! same runs.
 //!
 //! The calls here take structs of slices. Behind each stands a module whose function takes the slices one by one: if it
 //! took the structs, its count of instructions would change by one to three hundredths.
@@ -9,6 +10,7 @@
 #![forbid(unsafe_code)]
 
 mod build;
+mod change;
 mod checks;
 mod customise;
 mod distance;
@@ -20,7 +22,7 @@ mod sweep;
 pub use refusal::Refusal;
 pub use route::Drive;
 
-use slices::{Arcs, CostRoom, Costs, Graph, GraphRoom, Roads, Way};
+use slices::{Arcs, CostRoom, Costs, Graph, GraphRoom, RoadRoom, Roads, Way};
 
 /// The most junctions of a net.
 pub const MOST_JUNCTIONS: usize = 4_096;
@@ -60,6 +62,31 @@ pub fn customise(roads: Roads, graph: Graph, room: CostRoom) -> Result<(), Refus
         graph.row_heads,
         up,
         down,
+    )
+}
+
+/// Gives one arc another cost, and replies how many lower triangles of reconsidered edges there are.
+pub fn change(
+    roads: RoadRoom,
+    graph: Graph,
+    room: CostRoom,
+    arc: u32,
+    cost: u32,
+) -> Result<u64, Refusal> {
+    let (Arcs { tails, heads }, costs) = (roads.arcs, roads.costs);
+    let CostRoom { up, down } = room;
+    change::change(
+        tails,
+        heads,
+        costs,
+        graph.order,
+        graph.rank,
+        graph.first,
+        graph.row_heads,
+        up,
+        down,
+        arc,
+        cost,
     )
 }
 

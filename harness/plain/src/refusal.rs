@@ -33,6 +33,8 @@ pub enum Refusal {
     DistanceRoom,
     /// 16
     TooFar(usize),
+    /// 17
+    ArcNumber,
 }
 
 impl Refusal {
@@ -54,6 +56,7 @@ impl Refusal {
             Refusal::PieceFitsNothing => 13,
             Refusal::DistanceRoom => 15,
             Refusal::TooFar(_) => 16,
+            Refusal::ArcNumber => 17,
         }
     }
 

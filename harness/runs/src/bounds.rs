@@ -1,5 +1,6 @@
 //! The greatest sizes, and what lies just past them.
 
+mod changes;
 mod sweeps;
 
 use crate::judge::{compare_all, judge};
@@ -7,7 +8,7 @@ use crate::lists::{compare, stale, Call, Lists, Outcome, CALLS};
 use crate::subject::SUBJECTS;
 use crate::tally::Tally;
 use crate::{Told, CLOSED};
-use cases::{Case, Damage};
+use cases::{Case, Change, Damage};
 use nets::{order, Net};
 use slices::Way;
 use std::cmp::Ordering;
@@ -18,12 +19,16 @@ const MOST: usize = 4_096;
 type Run = fn(&mut Tally) -> Result<(), String>;
 
 /// All of them, by name.
-pub const ALL: [(&str, Run); 9] = [
+pub const ALL: [(&str, Run); 13] = [
     ("too many junctions or arcs", past_the_limits),
     ("16,384 arcs", most_arcs),
     ("the dearest path", dearest_path),
     ("the deepest shortcut", deepest_shortcut),
     ("faults in the last places", last_faults),
+    ("the changes' checks by turns", changes::checks_by_turns),
+    ("a change that every row feels", changes::felt_by_every_row),
+    ("changes on over 65,536 edges", changes::over_65_536_edges),
+    ("a long chain of changes", changes::long_chain),
     ("all junctions joined", all_joined),
     ("a route of a thousand million arcs", endless_route),
     ("distances round CLOSED", sweeps::distances_round_closed),
@@ -60,8 +65,8 @@ fn past_the_limits(tally: &mut Tally) -> Result<(), String> {
             down: stale(3),
             route: stale(3),
             distances: stale(n),
-            from: 0,
-            to: 0,
+            cost: 1,
+            ..Lists::default()
         };
         for call in CALLS {
             compare_all(call, &lists, tally)?;
@@ -84,6 +89,9 @@ fn most_arcs(tally: &mut Tally) -> Result<(), String> {
     let net = net_of(MOST, arcs);
     let mut case = Case::on(&net, order::by_number(MOST));
     case.later[5] = CLOSED;
+    // the last arc, one that is hidden, and one in force that lies lowest
+    let changes = [(16_383, CLOSED), (0, 500_000), (8_192, CLOSED), (8_192, 3)];
+    case.changes = changes.map(|(arc, cost)| Change { arc, cost }).to_vec();
     tally.add(&judge(&case)?);
     Ok(())
 }
@@ -125,6 +133,8 @@ fn ends_of_path(case: &Case, tally: &mut Tally) -> Result<(), String> {
         distances: stale(MOST),
         from: 0,
         to: MOST as u32 - 1,
+        arc: 1,
+        cost: 499_999,
     };
     for call in CALLS {
         lists = compare_all(call, &lists, tally)?.left;
@@ -132,9 +142,9 @@ fn ends_of_path(case: &Case, tally: &mut Tally) -> Result<(), String> {
     lists.route = stale(MOST - 2);
     compare_all(Call::Route, &lists, tally)?;
     let told = compare_all(Call::Distance, &lists, tally)?.told;
-    // the last call lists the distances to the last junction
+    // the last sweep lists the distances to the last junction, before one arc got cheaper
     match (told.distance, lists.distances[0]) {
-        (2_047_500_000, 2_047_500_000) => Ok(()),
+        (2_047_499_999, 2_047_500_000) => Ok(()),
         other => Err(format!("the naive programs say {other:?}")),
     }
 }
@@ -154,8 +164,8 @@ fn longest_path() -> Lists {
         down: vec![1; MOST - 1],
         route: stale(3),
         distances: stale(MOST),
-        from: 0,
-        to: 0,
+        cost: 1,
+        ..Lists::default()
     }
 }
 
@@ -164,7 +174,7 @@ fn last_faults(tally: &mut Tally) -> Result<(), String> {
     let good = longest_path();
     type Spoil = fn(&mut Lists);
     let [sweep_from, sweep_to] = [Way::From, Way::To].map(Call::Sweep);
-    let faults: [(Call, u32, Spoil); 21] = [
+    let faults: [(Call, u32, Spoil); 25] = [
         (Call::Build, 3, |lists| lists.heads[MOST - 2] = MOST as u32),
         (Call::Build, 4, |lists| lists.order[MOST - 1] = 0),
         (Call::Build, 4, |lists| lists.order[MOST - 1] = MOST as u32),
@@ -186,6 +196,12 @@ fn last_faults(tally: &mut Tally) -> Result<(), String> {
         (sweep_to, 15, |lists| lists.distances.push(0)),
         (sweep_from, 16, |lists| lists.up[MOST - 2] = CLOSED - 1),
         (sweep_to, 16, |lists| lists.down[MOST - 2] = CLOSED - 1),
+        (Call::Change, 9, |lists| lists.costs[MOST - 2] = 0),
+        (Call::Change, 10, |lists| lists.up.truncate(MOST - 2)),
+        (Call::Change, 17, |lists| lists.arc = MOST as u32 - 1),
+        (Call::Change, 9, |lists| {
+            (lists.arc, lists.cost) = (MOST as u32 - 2, CLOSED - 1)
+        }),
     ];
     for (call, number, spoil) in faults {
         let mut lists = good.clone();
@@ -264,7 +280,27 @@ fn all_joined(tally: &mut Tally) -> Result<(), String> {
     answer.told.arcs = 1;
     answer.left.route = vec![3_999, CLOSED];
     hold(Call::Route, &lists, &answer, tally)?;
+    all_joined_changed(lists.clone(), tally)?;
     all_joined_swept(lists, tally)
+}
+
+/// One more arc, from 4,000 to 4,001, changes: the edge between them gets its cost, and each edge from 4,001 up gets
+/// CLOSED, as no edge leads down and no arc lies there. The edge from x to any y has x lower triangles.
+fn all_joined_changed(mut lists: Lists, tally: &mut Tally) -> Result<(), String> {
+    lists.tails.push(4_000);
+    lists.heads.push(4_001);
+    lists.costs.push(7);
+    (lists.arc, lists.cost) = (MOST as u32 - 1, 5);
+    let mut left = lists.clone();
+    left.costs[MOST - 1] = 5;
+    left.up[left.first[4_000] as usize] = 5;
+    left.up[left.first[4_001] as usize..].fill(CLOSED);
+    let above = (4_001..MOST).map(|x| (MOST - 1 - x) * x);
+    let told = Told {
+        triangles: (4_000 + above.sum::<usize>()) as u64,
+        ..Told::default()
+    };
+    hold(Call::Change, &lists, &Outcome { told, left }, tally)
 }
 
 /// The sweeps over the same graph: each position leads to every higher one, at 1, and to no lower one.

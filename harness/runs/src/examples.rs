@@ -1,8 +1,8 @@
-//! The examples of document 01, by the answers' names; and what request a of document 02 makes of them.
+//! The examples of document 01, by the answers' names; and what requests a and b of document 02 make of them.
 
 use crate::CLOSED;
-use calls::{told, Built, Distance, Filled, Refusal, Route};
-use slices::{Arcs, CostRoom, Costs, Graph, GraphRoom, Roads, Way};
+use calls::{told, Built, Changed, Distance, Filled, Refusal, Route};
+use slices::{Arcs, CostRoom, Costs, Graph, GraphRoom, RoadRoom, Roads, Way};
 use std::mem::take;
 
 /// A net with its graph and costs, as the calls left them.
@@ -78,6 +78,22 @@ impl Worked {
         answer
     }
 
+    fn change(&mut self, arc: u32, cost: u32) -> Changed {
+        let mut costs = take(&mut self.costs);
+        let (mut up, mut down) = (take(&mut self.up), take(&mut self.down));
+        let roads = RoadRoom {
+            arcs: self.roads().arcs,
+            costs: &mut costs,
+        };
+        let room = CostRoom {
+            up: &mut up,
+            down: &mut down,
+        };
+        let answer = Changed::from(told::change(roads, self.graph(), room, arc, cost));
+        (self.costs, self.up, self.down) = (costs, up, down);
+        answer
+    }
+
     fn distance(&self, from: u32, to: u32) -> Distance {
         Distance::from(told::distance(self.graph(), self.held(), from, to))
     }
@@ -107,6 +123,8 @@ pub fn run() -> (usize, Vec<String>) {
     refusals(&mut says);
     sweeps(&mut says);
     sweep_refusals(&mut says);
+    changes(&mut says);
+    change_refusals(&mut says);
     let failed = results.iter().filter(|(_, holds)| !holds);
     let failed = failed.map(|(name, _)| name.to_string()).collect();
     (results.len(), failed)
@@ -325,4 +343,62 @@ fn sweep_refusals(says: &mut impl FnMut(&'static str, bool)) {
         "just too far from 1",
         n4.sweep(Way::From, 1, 4) == all_closed(2),
     );
+}
+
+fn changes(says: &mut impl FnMut(&'static str, bool)) {
+    let (mut n4, _) = Worked::new(&N4, &[0, 1, 2, 3], 6);
+    n4.customise();
+    // what stands past E is kept
+    (n4.up[5], n4.down[5]) = (77, 78);
+    let one = Changed::Triangles(1);
+    says("arc 2 closed by a change", n4.change(2, CLOSED) == one);
+    says("its cost", n4.costs == [3, 4, CLOSED, 6, 20]);
+    says("P7 up", n4.up == [CLOSED, 4, 7, 20, CLOSED, 77]);
+    says("P7 down", n4.down == [3, CLOSED, CLOSED, 6, 13, 78]);
+    says("P7 by a change", n4.distance(0, 1) == Distance::NoWalk);
+    says("P7's other", n4.distance(1, 3) == Distance::Tenths(20));
+    says("arc 2 opened by a change", n4.change(2, 2) == one);
+    says("P2's costs again", n4.costs == [3, 4, 2, 6, 20]);
+    says("P2 up again", n4.up == [CLOSED, 4, 7, 20, 2, 77]);
+    says("P2 down again", n4.down == [3, CLOSED, CLOSED, 6, 13, 78]);
+    says("P4 again", n4.distance(0, 1) == Distance::Tenths(12));
+    says("the same cost", n4.change(2, 2) == Changed::Triangles(0));
+    // 1 to 2 over 0, then 3 to 2 over 1
+    says(
+        "a change from below",
+        n4.change(0, 5) == Changed::Triangles(2),
+    );
+    says("up after it", n4.up == [CLOSED, 4, 9, 20, 2, 77]);
+    says("down after it", n4.down == [5, CLOSED, CLOSED, 6, 15, 78]);
+
+    let mut p8 = N4.to_vec();
+    p8[2].2 = CLOSED;
+    p8.extend([(1, 3, 30), (2, 2, 9)]);
+    let (mut n4, _) = Worked::new(&p8, &[0, 1, 2, 3], 5);
+    n4.customise();
+    let (up, down) = (n4.up.clone(), n4.down.clone());
+    let none = Changed::Triangles(0);
+    says("a hidden arc", n4.change(4, 25) == none);
+    says("an arc with equal ends", n4.change(6, CLOSED) == none);
+    says("their costs", n4.costs == [3, 4, CLOSED, 6, 25, 30, CLOSED]);
+    says("nothing else", (n4.up, n4.down) == (up, down));
+}
+
+fn change_refusals(says: &mut impl FnMut(&'static str, bool)) {
+    let (mut n4, _) = Worked::new(&N4, &[3, 2, 1, 0], 5);
+    n4.customise();
+    let (up, down) = (n4.up.clone(), n4.down.clone());
+    let refused = |refusal| Changed::Refused(refusal);
+    says("arc 5 of 5", n4.change(5, 1) == refused(Refusal::ArcNumber));
+    says("17, then 9", n4.change(9, 0) == refused(Refusal::ArcNumber));
+    for (name, cost) in [("to 0", 0), ("to 500,001", 500_001), ("nearly", CLOSED - 1)] {
+        says(name, n4.change(3, cost) == refused(Refusal::ArcCost(3)));
+    }
+    says("nothing changed", n4.costs == [3, 4, 2, 6, 20]);
+    n4.costs[1] = 0;
+    let standing = refused(Refusal::ArcCost(1));
+    says("a standing 0", n4.change(1, 4) == standing);
+    says("a standing 0, then 17", n4.change(5, 4) == standing);
+    says("a standing 0 stays", n4.costs == [3, 0, 2, 6, 20]);
+    says("no edge changed", (n4.up, n4.down) == (up, down));
 }

@@ -55,6 +55,7 @@ pub fn good_lists(source: &mut Source) -> Lists {
     lists.distances = stale(case.n);
     lists.from = source.below(case.n) as u32;
     lists.to = source.below(case.n) as u32;
+    lists.cost = 1;
     lists
 }
 
@@ -71,11 +72,17 @@ pub fn spoilt(good: &Lists, source: &mut Source) -> Handed {
             spoil(&mut lists, source);
         }
     }
+    lists.arc = source.below(good.costs.len().max(1)) as u32;
+    let now = good.costs.get(lists.arc as usize).copied().unwrap_or(1);
+    let dear = source.between(1, 500_000) as u32;
+    lists.cost = source.pick(&[CLOSED, CLOSED, 1, 7, 500_000, now, dear, dear]);
     if source.percent(12) {
         let word = any_word(&lists, source);
-        match source.below(2) {
+        match source.below(4) {
             0 => lists.from = word,
-            _ => lists.to = word,
+            1 => lists.to = word,
+            2 => lists.arc = word,
+            _ => lists.cost = word,
         }
     }
     Handed { call, lists }
@@ -113,7 +120,17 @@ fn any_word(lists: &Lists, source: &mut Source) -> u32 {
     let edges = lists.first.last().copied().unwrap_or(0);
     match source.below(4) {
         0 => source.below(n as usize + 2) as u32,
-        1 => source.pick(&[n.wrapping_sub(1), n, n + 1, edges, edges.wrapping_add(1)]),
+        1 => {
+            let arcs = lists.tails.len() as u32;
+            source.pick(&[
+                n.wrapping_sub(1),
+                n,
+                n + 1,
+                edges,
+                edges.wrapping_add(1),
+                arcs,
+            ])
+        }
         2 => source.pick(&[
             0,
             1,

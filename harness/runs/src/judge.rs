@@ -1,6 +1,7 @@
 //! Judges a case: every call on it, by both implementations, against the naive programs; and those against Dijkstra and
 //! Floyd-Warshall.
 
+use crate::changes;
 use crate::lists::{compare, expected, shown, stale, Call, Lent, Lists, Outcome, ROUTE};
 use crate::subject::{Subject, SUBJECTS};
 use crate::sweeps;
@@ -41,12 +42,47 @@ pub fn judge_asking(case: &Case, pairs: usize) -> Result<Tally, String> {
     lists.heads = case.heads.clone();
     lists.costs = case.costs.clone();
     customise(case, &mut lists, &mut tally)?;
+    let customised = lists.clone();
     question(case, pairs, &mut lists, &mut tally)?;
     if case.later != case.costs && case.n <= EVERY_PAIR {
         // roads shut and roads open again, over lists that hold the costs of before
         compare_all(Call::Customise, &lists, &mut tally)?;
     }
+    if !case.changes.is_empty() {
+        change(case, customised, &mut tally)?;
+    }
     Ok(tally)
+}
+
+/// The changes, one after the other: on costs as customised, then questions; on damaged shortcut costs; on costs that
+/// nobody customised. What stands past E is to be kept.
+fn change(case: &Case, mut lists: Lists, tally: &mut Tally) -> Result<(), String> {
+    let edges = lists.first[case.n] as usize;
+    for list in [&mut lists.up, &mut lists.down] {
+        let length = list.len();
+        list[edges..].copy_from_slice(&stale(length)[edges..]);
+    }
+    let after = changes::hold_customised(&lists, &case.changes, tally)
+        .map_err(|error| format!("costs as customised, then changes: {error}"))?;
+    let mut source = Source::nth(case.seed, 2);
+    let pairs = some_pairs(case.n, 8, &mut source);
+    let mut questions = Questions {
+        stage: "after changes",
+        spare: case.spare[3],
+        source: &mut source,
+        tally,
+    };
+    questions.ask(&after, &pairs, Some(&mut Truth::of(&after)))?;
+    questions.sweep(&after, &dairies(case.n, &pairs)[..1], Some(&after.roads()))?;
+    if !case.damage.is_empty() {
+        let mut damaged = lists.clone();
+        inflict(case, &mut damaged);
+        changes::hold(&damaged, &case.changes, tally)
+            .map_err(|error| format!("shortcut costs damaged, then changes: {error}"))?;
+    }
+    changes::make_up(&mut lists, &mut source);
+    changes::hold(&lists, &case.changes, tally)
+        .map_err(|error| format!("made-up shortcut costs, then changes: {error}"))
 }
 
 /// All questions: on costs as customised, on later arc costs, on damaged shortcut costs. Leaves the later costs.
@@ -292,7 +328,7 @@ impl Questions<'_> {
         rooms: &[usize],
     ) -> Result<(), String> {
         let name = subject.name();
-        let told = lent.call(subject, Call::Distance, from, to);
+        let told = lent.call(subject, Call::Distance, (from, to));
         self.tally.call(far);
         if told != far {
             return Err(format!(
@@ -302,7 +338,7 @@ impl Questions<'_> {
         }
         for &room in rooms {
             lent.replace(ROUTE, &stale(room));
-            let told = lent.call(subject, Call::Route, from, to);
+            let told = lent.call(subject, Call::Route, (from, to));
             let expected = drive.into_room(room);
             self.tally.call(expected.told);
             if told != expected.told || lent.list(ROUTE) != expected.route {

@@ -2,6 +2,7 @@
 
 pub mod bounds;
 pub mod caught;
+pub mod changes;
 pub mod examples;
 pub mod garbage;
 pub mod growth;

@@ -9,13 +9,15 @@ use naive::sweeps::Sweep;
 use slices::Way;
 use std::fmt;
 
-/// The six calls.
+/// The seven calls.
 #[derive(Clone, Copy, Debug, PartialEq, Eq)]
 pub enum Call {
     /// Build.
     Build,
     /// Customise.
     Customise,
+    /// Change.
+    Change,
     /// Distance.
     Distance,
     /// Route.
@@ -25,13 +27,14 @@ pub enum Call {
 }
 
 /// All of them. Each may be run on what those before it leave.
-pub const CALLS: [Call; 6] = [
+pub const CALLS: [Call; 7] = [
     Call::Build,
     Call::Customise,
     Call::Distance,
     Call::Route,
     Call::Sweep(Way::From),
     Call::Sweep(Way::To),
+    Call::Change,
 ];
 
 impl Call {
@@ -40,6 +43,7 @@ impl Call {
         match self {
             Call::Build => "build",
             Call::Customise => "customise",
+            Call::Change => "change",
             Call::Distance => "distance",
             Call::Route => "route",
             Call::Sweep(Way::From) => "sweep_from",
@@ -77,6 +81,10 @@ pub struct Lists {
     pub from: u32,
     /// The target.
     pub to: u32,
+    /// The arc that changes.
+    pub arc: u32,
+    /// Its new cost.
+    pub cost: u32,
 }
 
 /// How many lists there are.
@@ -176,6 +184,14 @@ impl Lists {
         Roads::of(&self.tails, &self.heads, &self.costs)
     }
 
+    /// The two numbers that a call gets: the arc and its new cost, or the start and the target.
+    pub fn numbers(&self, call: Call) -> (u32, u32) {
+        match call {
+            Call::Change => (self.arc, self.cost),
+            _ => (self.from, self.to),
+        }
+    }
+
     /// A sweep's question, for the naive programs.
     pub fn sweep(&self, way: Way) -> Sweep {
         match way {
@@ -190,7 +206,9 @@ impl fmt::Display for Lists {
         for (name, list) in NAMES.iter().zip(self.all()) {
             writeln!(to, "  {name} ({}): {}", list.len(), shown(list))?;
         }
-        write!(to, "  from {} to {}", self.from, self.to)
+        writeln!(to, "  from {} to {}", self.from, self.to)?;
+        let cost = shown_number(self.cost);
+        write!(to, "  arc {} to get the cost {cost}", self.arc)
     }
 }
 
@@ -246,6 +264,13 @@ pub fn expected(call: Call, lists: &Lists) -> Outcome {
             left.down = leaves.down;
             leaves.told
         }
+        Call::Change => {
+            let leaves = calls::change(lists.map(), rows, held, lists.arc, lists.cost);
+            left.costs = leaves.costs;
+            left.up = leaves.up;
+            left.down = leaves.down;
+            leaves.told
+        }
         Call::Distance => calls::distance(order, rows, held, lists.from, lists.to),
         Call::Route => {
             let (map, from, to) = (lists.map(), lists.from, lists.to);
@@ -280,10 +305,10 @@ impl Lent {
         self.lists[at] = Guarded::new(list);
     }
 
-    /// Runs a call.
-    pub fn call(&mut self, subject: &dyn Subject, call: Call, from: u32, to: u32) -> Told {
+    /// Runs a call on the lists and on two numbers: from and to, or an arc and its new cost.
+    pub fn call(&mut self, subject: &dyn Subject, call: Call, numbers: (u32, u32)) -> Told {
         let lists = self.lists.each_mut().map(Guarded::list_mut);
-        run(subject, call, lists, (from, to))
+        run(subject, call, lists, numbers)
     }
 
     /// What a list now holds.
@@ -301,6 +326,7 @@ impl Lent {
         let writable: &[usize] = match call {
             Call::Build => &[4, 5, 6],
             Call::Customise => &[7, 8],
+            Call::Change => &[2, 7, 8],
             Call::Distance => &[],
             Call::Route => &[ROUTE],
             Call::Sweep(_) => &[DISTANCES],
@@ -319,8 +345,8 @@ impl Lent {
         None
     }
 
-    /// What the lists now hold.
-    pub fn into_lists(self, from: u32, to: u32) -> Lists {
+    /// What the lists now hold, with the numbers of others.
+    pub fn into_lists(self, numbers: &Lists) -> Lists {
         let lists = self.lists.map(|list| list.list().to_vec());
         let [tails, heads, costs, order, rank, first, row_heads, up, down, route, distances] =
             lists;
@@ -336,8 +362,10 @@ impl Lent {
             down,
             route,
             distances,
-            from,
-            to,
+            from: numbers.from,
+            to: numbers.to,
+            arc: numbers.arc,
+            cost: numbers.cost,
         }
     }
 }
@@ -350,12 +378,12 @@ pub fn compare(
     expected: &Outcome,
 ) -> Result<(), String> {
     let mut lent = Lent::new(lists);
-    let told = lent.call(subject, call, lists.from, lists.to);
+    let told = lent.call(subject, call, lists.numbers(call));
     let name = subject.name();
     if let Some(trespass) = lent.trespass(call) {
         return Err(format!("{name}: {call:?} {trespass}"));
     }
-    let left = lent.into_lists(lists.from, lists.to);
+    let left = lent.into_lists(lists);
     if told != expected.told {
         return Err(format!(
             "{name}: {call:?} told {told:?}, expected {:?}",

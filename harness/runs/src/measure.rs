@@ -1,5 +1,6 @@
 //! Times by the clock, and instructions by callgrind.
 
+use crate::lists::Call;
 use crate::ready::{Job, Ready, JOBS};
 use std::fs;
 use std::hint::black_box;
@@ -10,10 +11,17 @@ use std::time::{Duration, Instant};
 /// A number for each of the jobs.
 pub type PerJob<T> = [T; JOBS.len()];
 
+/// Which calls are measured. What is told of others is no number.
+pub type Wanted = fn(Call) -> bool;
+
 /// The median time of each job in microseconds. The jobs take turns, forward and backward, so that what disturbs one
 /// disturbs all; each is run once before its time is taken, so that none pays for what the one before it left.
-pub fn times(ready: &mut Ready, samples: usize) -> PerJob<f64> {
-    let batches = JOBS.map(|job| batch(ready, job));
+pub fn times(ready: &mut Ready, samples: usize, wanted: Wanted) -> PerJob<f64> {
+    let is_wanted = |(call, _): Job| wanted(call);
+    let batches = JOBS.map(|job| match is_wanted(job) {
+        true => batch(ready, job),
+        false => 0,
+    });
     let mut taken: PerJob<Vec<f64>> = JOBS.map(|_| Vec::new());
     for sample in 0..samples {
         for turn in 0..JOBS.len() {
@@ -21,6 +29,9 @@ pub fn times(ready: &mut Ready, samples: usize) -> PerJob<f64> {
                 0 => turn,
                 _ => JOBS.len() - 1 - turn,
             };
+            if !is_wanted(JOBS[at]) {
+                continue;
+            }
             time_of(ready, JOBS[at], Ready::calls(JOBS[at].0));
             let time = time_of(ready, JOBS[at], batches[at]);
             taken[at].push(time.as_secs_f64() * 1e6 / batches[at] as f64);
@@ -28,7 +39,7 @@ pub fn times(ready: &mut Ready, samples: usize) -> PerJob<f64> {
     }
     taken.map(|mut times| {
         times.sort_by(f64::total_cmp);
-        times[times.len() / 2]
+        times.get(times.len() / 2).copied().unwrap_or(f64::NAN)
     })
 }
 
@@ -49,14 +60,22 @@ fn time_of(ready: &mut Ready, job: Job, calls: usize) -> Duration {
     start.elapsed()
 }
 
-/// Runs a job once through all of its pairs: what callgrind counts. The name is there to be found.
+/// Runs a job once through all of its pairs, or through its changes, each told apart.
+pub fn under_callgrind(ready: &mut Ready, job: usize) {
+    let calls = Ready::calls(JOBS[job].0);
+    match JOBS[job].0 {
+        Call::Change => (0..calls).for_each(|turn| griezmuld_measured(ready, job, turn, turn + 1)),
+        _ => griezmuld_measured(ready, job, 0, calls),
+    }
+}
+
+/// What callgrind counts. The name is there to be found.
 #[allow(unsafe_code)]
 #[no_mangle]
 #[inline(never)]
-pub extern "C" fn griezmuld_measured(ready: &mut Ready, job: usize) {
-    let job = JOBS[job];
-    for turn in 0..Ready::calls(job.0) {
-        black_box(ready.run(job, turn));
+pub extern "C" fn griezmuld_measured(ready: &mut Ready, job: usize, from: usize, to: usize) {
+    for turn in from..to {
+        black_box(ready.run(JOBS[job], turn));
     }
 }
 
@@ -65,8 +84,17 @@ pub extern "C" fn griezmuld_measured(ready: &mut Ready, job: usize) {
 const NO_REPEATS: &str =
     "glibc.cpu.x86_rep_stosb_threshold=1000000000:glibc.cpu.x86_rep_movsb_threshold=1000000000";
 
-/// The instructions of each job's calls, on average, by callgrind; none where valgrind isn't installed.
-pub fn instructions(net: &str, folder: &Path) -> Result<Option<PerJob<f64>>, String> {
+/// The instructions of each job's calls.
+#[derive(Clone, Copy)]
+pub struct Counts {
+    /// On average.
+    pub mean: PerJob<f64>,
+    /// The most of what is told apart: of one change.
+    pub worst: PerJob<f64>,
+}
+
+/// The instructions by callgrind; none where valgrind isn't installed.
+pub fn instructions(net: &str, folder: &Path, wanted: Wanted) -> Result<Option<Counts>, String> {
     let installed = Command::new("valgrind")
         .arg("--version")
         .stdout(Stdio::null())
@@ -75,13 +103,31 @@ pub fn instructions(net: &str, folder: &Path) -> Result<Option<PerJob<f64>>, Str
     if installed.is_err() {
         return Ok(None);
     }
-    let room = Scratch::new()?;
-    let mut counts = JOBS.map(|_| 0.0);
+    let mut counts = Counts {
+        mean: [f64::NAN; JOBS.len()],
+        worst: [f64::NAN; JOBS.len()],
+    };
     for (at, (call, _)) in JOBS.into_iter().enumerate() {
-        count(net, folder, at, &room)?;
-        counts[at] = total(&room.file("counts.1"))? as f64 / Ready::calls(call) as f64;
+        if wanted(call) {
+            let room = Scratch::new()?;
+            count(net, folder, at, &room)?;
+            let told = totals(&room, call)?;
+            counts.mean[at] = told.iter().sum::<f64>() / Ready::calls(call) as f64;
+            counts.worst[at] = told.into_iter().fold(0.0, f64::max);
+        }
     }
     Ok(Some(counts))
+}
+
+/// All that callgrind tells of a call.
+fn totals(room: &Scratch, call: Call) -> Result<Vec<f64>, String> {
+    let files = match call {
+        Call::Change => Ready::calls(call),
+        _ => 1,
+    };
+    (1..=files)
+        .map(|file| total(&room.file(&format!("counts.{file}"))))
+        .collect()
 }
 
 /// Has callgrind count one job. Each has a run of its own: on some processors callgrind takes the calls of a function
@@ -110,7 +156,7 @@ fn count(net: &str, folder: &Path, job: usize, room: &Scratch) -> Result<(), Str
 }
 
 /// The total that a file of callgrind's tells.
-fn total(file: &Path) -> Result<u64, String> {
+fn total(file: &Path) -> Result<f64, String> {
     let text = fs::read_to_string(file).map_err(|error| format!("callgrind: {error}"))?;
     let told = text.lines().find_map(|line| line.strip_prefix("totals: "));
     let told = told.or_else(|| text.lines().find_map(|line| line.strip_prefix("summary: ")));

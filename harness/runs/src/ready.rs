@@ -29,7 +29,7 @@ pub enum Who {
 pub type Job = (Call, Who);
 
 /// All that is measured on a net, in this sequence.
-pub const JOBS: [Job; 15] = [
+pub const JOBS: [Job; 17] = [
     (Call::Build, Who::Library),
     (Call::Build, Who::Plain),
     (Call::Customise, Who::Library),
@@ -45,6 +45,8 @@ pub const JOBS: [Job; 15] = [
     (Call::Sweep(Way::From), Who::Singly),
     (Call::Sweep(Way::To), Who::Library),
     (Call::Sweep(Way::To), Who::Plain),
+    (Call::Change, Who::Library),
+    (Call::Change, Who::Plain),
 ];
 
 /// How many pairs are asked for. Their 64 ends are the farms of 64 distance calls.
@@ -54,6 +56,9 @@ pub const PAIRS: usize = 32;
 /// reached from, as Dijkstra is done at once in a dead end.
 pub const DAIRIES: usize = 8;
 
+/// How many arcs are closed, and opened again: the last that is open, and others chosen anyhow.
+pub const CHANGES: usize = 64;
+
 /// A net, its lists with the graph and the customised costs, and pairs of junctions.
 pub struct Ready {
     /// The lists.
@@ -62,21 +67,30 @@ pub struct Ready {
     pub edges: usize,
     pairs: Vec<(u32, u32)>,
     swept: Vec<(u32, u32)>,
+    /// Arcs, and their costs at first.
+    changed: Vec<(u32, u32)>,
     leaving: Leaving,
     dijkstra: Dijkstra,
 }
 
 impl Ready {
-    /// A net by its name: a stored one, or `county N`, a synthetic one of N junctions.
+    /// A net by its name: a stored one, or `county N`, `path N` or `star N`, a synthetic one of N junctions.
     pub fn named(folder: &Path, name: &str) -> Result<Ready, String> {
-        if let Some(n) = name.strip_prefix("county ") {
-            let n: usize = n.parse().map_err(|_| format!("{name} is unknown"))?;
-            let net = county(n, USUAL, &mut Source::new(n as u64));
-            let order = order::dissection(&net.east, &net.north, &net.tails, &net.heads);
+        let Some((kind, n)) = name.split_once(' ') else {
+            let (net, order) = stored::read(folder, name)?;
             return Ready::of(&net, order);
+        };
+        let n: usize = n.parse().map_err(|_| format!("{name} is unknown"))?;
+        match kind {
+            "county" => {
+                let net = county(n, USUAL, &mut Source::new(n as u64));
+                let order = order::dissection(&net.east, &net.north, &net.tails, &net.heads);
+                Ready::of(&net, order)
+            }
+            "path" => Ready::of(&path(n), order::by_number(n)),
+            "star" => Ready::of(&star(n), order::by_number(n)),
+            _ => Err(format!("{name} is unknown")),
         }
-        let (net, order) = stored::read(folder, name)?;
-        Ready::of(&net, order)
     }
 
     fn of(net: &Net, order: Vec<u32>) -> Result<Ready, String> {
@@ -106,11 +120,13 @@ impl Ready {
             edges,
             pairs: (0..PAIRS).map(|_| (any(), any())).collect(),
             swept: Vec::new(),
+            changed: Vec::new(),
             leaving: Leaving::of(n, &roads),
             dijkstra: Dijkstra::new(n),
             lists,
         };
         ready.choose_dairies()?;
+        ready.choose_arcs(&mut source);
         let told = ready.run((Call::Customise, Who::Plain), 0);
         match told {
             0 => Ok(ready),
@@ -132,17 +148,29 @@ impl Ready {
         }
     }
 
+    fn choose_arcs(&mut self, source: &mut Source) {
+        let costs = self.lists.costs.iter();
+        let open = (0..)
+            .zip(costs.copied())
+            .filter(|&(_, cost)| cost != CLOSED);
+        let mut open: Vec<(u32, u32)> = open.collect();
+        self.changed.extend(open.pop());
+        source.shuffle(&mut open);
+        self.changed.extend(open.iter().take(CHANGES - 1));
+    }
+
     /// How many calls the runs of a job go through before they repeat.
     pub fn calls(call: Call) -> usize {
         match call {
             Call::Build | Call::Customise => 1,
             Call::Distance | Call::Route => PAIRS,
             Call::Sweep(_) => DAIRIES,
+            Call::Change => 2 * CHANGES,
         }
     }
 
-    /// Runs a job once, for one of the pairs. Replies a number that depends on the work: the pair's distance, where that
-    /// is what is worked out.
+    /// Runs a job once, for one of the pairs, or for an arc that is closed and in the next turn opened. Replies a number
+    /// that depends on the work: the pair's distance, where that is what is worked out.
     pub fn run(&mut self, (call, who): Job, turn: usize) -> u64 {
         let pair = self.pair(call, turn);
         match who {
@@ -162,6 +190,10 @@ impl Ready {
     fn pair(&self, call: Call, turn: usize) -> (u32, u32) {
         match call {
             Call::Sweep(_) => self.swept[turn % DAIRIES],
+            Call::Change => {
+                let (arc, cost) = self.changed[turn / 2 % self.changed.len()];
+                (arc, if turn % 2 == 0 { CLOSED } else { cost })
+            }
             _ => self.pairs[turn % PAIRS],
         }
     }
@@ -176,6 +208,7 @@ impl Ready {
         let far = match call {
             Call::Sweep(Way::From) => listed(pair.1),
             Call::Sweep(Way::To) => listed(pair.0),
+            Call::Change => told.triangles,
             _ => told.distance,
         };
         u64::from(told.number) + far
@@ -193,14 +226,57 @@ impl Ready {
 
     /// Whether all who answer a question answer it alike.
     pub fn agrees(&mut self) -> bool {
-        let mut told = JOBS.into_iter().filter(|&(call, who)| {
-            call != Call::Build && call != Call::Customise && who != Who::Singly
-        });
-        told.all(|(call, who)| {
-            (0..Ready::calls(call)).all(|turn| {
-                let far = self.walk(Call::Distance, self.pair(call, turn));
-                self.run((call, who), turn) == far
+        let writes = [Call::Build, Call::Customise, Call::Change];
+        let mut told = JOBS
+            .into_iter()
+            .filter(|&(call, who)| !writes.contains(&call) && who != Who::Singly);
+        self.changes_agree()
+            && told.all(|(call, who)| {
+                (0..Ready::calls(call)).all(|turn| {
+                    let far = self.walk(Call::Distance, self.pair(call, turn));
+                    self.run((call, who), turn) == far
+                })
             })
+    }
+    /// Whether both leave the same of each change, and after each opening the costs of before.
+    fn changes_agree(&mut self) -> bool {
+        let before = self.lists.clone();
+        (0..Ready::calls(Call::Change)).all(|turn| {
+            let old = self.lists.clone();
+            let library = self.run((Call::Change, Who::Library), turn);
+            let left = std::mem::replace(&mut self.lists, old);
+            let plain = self.run((Call::Change, Who::Plain), turn);
+            library == plain && left == self.lists && (turn % 2 == 0 || left == before)
         })
     }
+}
+
+/// A path both ways, whose first junction alone has an arc to the last: ordered by number, every row has the last, and
+/// closing that arc changes each.
+fn path(n: usize) -> Net {
+    let last = n as u32 - 1;
+    let mut net = Net {
+        n,
+        ..Net::default()
+    };
+    for at in 0..last {
+        net.arc(at, at + 1, 30 + at % 7);
+        net.arc(at + 1, at, 40 + at % 9);
+    }
+    net.arc(0, last, 50);
+    net
+}
+
+/// A star both ways with its centre first: every two junctions are joined, and closing the last arc, from the second
+/// junction to the centre, has all edges from there up reconsidered.
+fn star(n: usize) -> Net {
+    let mut net = Net {
+        n,
+        ..Net::default()
+    };
+    for at in (1..n as u32).rev() {
+        net.arc(0, at, 30 + at % 7);
+        net.arc(at, 0, 40 + at % 9);
+    }
+    net
 }

@@ -17,19 +17,11 @@ pub fn smaller_cases(case: &Case) -> Vec<Case> {
         }
     };
     add(&|case| case.damage.clear());
+    add(&|case| case.changes.clear());
     add(&|case| case.besides.clear());
     add(&|case| case.later = case.costs.clone());
     for (start, end) in cuts(case.tails.len()) {
-        add(&|case| {
-            for list in [
-                &mut case.tails,
-                &mut case.heads,
-                &mut case.costs,
-                &mut case.later,
-            ] {
-                list.drain(start..end);
-            }
-        });
+        add(&|case| keep_arcs(case, |arc| arc < start || end <= arc));
     }
     for junction in (0..case.n as u32).rev() {
         if case.n > 1 {
@@ -38,6 +30,9 @@ pub fn smaller_cases(case: &Case) -> Vec<Case> {
     }
     for (start, end) in cuts(case.damage.len()) {
         add(&|case| drop(case.damage.drain(start..end)));
+    }
+    for (start, end) in cuts(case.changes.len()) {
+        add(&|case| drop(case.changes.drain(start..end)));
     }
     for (start, end) in cuts(case.besides.len()) {
         add(&|case| drop(case.besides.drain(start..end)));
@@ -63,22 +58,34 @@ pub fn smaller_cases(case: &Case) -> Vec<Case> {
     smaller
 }
 
+/// Leaves arcs out, with their changes.
+fn keep_arcs(case: &mut Case, is_kept: impl Fn(usize) -> bool) {
+    let kept: Vec<usize> = (0..case.tails.len()).filter(|&arc| is_kept(arc)).collect();
+    for list in [
+        &mut case.tails,
+        &mut case.heads,
+        &mut case.costs,
+        &mut case.later,
+    ] {
+        *list = kept.iter().map(|&arc| list[arc]).collect();
+    }
+    case.changes.retain(|change| is_kept(change.arc));
+    for change in &mut case.changes {
+        change.arc = kept.partition_point(|&arc| arc < change.arc);
+    }
+}
+
 /// Leaves a junction out, with all that touches it.
 fn drop_junction(case: &mut Case, junction: u32) {
-    let touches = |arc: usize| case.tails[arc] == junction || case.heads[arc] == junction;
-    let kept: Vec<usize> = (0..case.tails.len()).filter(|&arc| !touches(arc)).collect();
+    let ends: Vec<(u32, u32)> = case.tails.iter().copied().zip(case.heads.clone()).collect();
+    keep_arcs(case, |arc| {
+        ends[arc].0 != junction && ends[arc].1 != junction
+    });
     let renumbered = |at: u32| if at > junction { at - 1 } else { at };
     case.n -= 1;
-    case.tails = kept
-        .iter()
-        .map(|&arc| renumbered(case.tails[arc]))
-        .collect();
-    case.heads = kept
-        .iter()
-        .map(|&arc| renumbered(case.heads[arc]))
-        .collect();
-    case.costs = kept.iter().map(|&arc| case.costs[arc]).collect();
-    case.later = kept.iter().map(|&arc| case.later[arc]).collect();
+    for list in [&mut case.tails, &mut case.heads] {
+        list.iter_mut().for_each(|at| *at = renumbered(*at));
+    }
     case.order.retain(|&at| at != junction);
     case.order.iter_mut().for_each(|at| *at = renumbered(*at));
     case.besides
@@ -109,6 +116,12 @@ pub fn smaller_lists(lists: &Lists) -> Vec<Lists> {
             candidate.all_mut()[at].remove(arc);
         }
         smaller.push(candidate);
+    }
+    for (arc, cost) in [(0, lists.cost), (lists.arc / 2, lists.cost), (lists.arc, 1)] {
+        if (arc, cost) != (lists.arc, lists.cost) {
+            let lists = lists.clone();
+            smaller.push(Lists { arc, cost, ..lists });
+        }
     }
     for at in 0..LISTS {
         for place in 0..lists.all()[at].len() {

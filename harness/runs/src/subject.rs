@@ -4,7 +4,7 @@ use crate::lists::{Call, LISTS};
 use crate::Told;
 use calls::told;
 use plain::Refusal;
-use slices::{Arcs, CostRoom, Costs, Graph, GraphRoom, Roads, Way};
+use slices::{Arcs, CostRoom, Costs, Graph, GraphRoom, RoadRoom, Roads, Way};
 
 /// The calls of one implementation, with the numbers that they tell.
 pub trait Subject {
@@ -16,6 +16,9 @@ pub trait Subject {
 
     /// Customise.
     fn customise(&self, roads: Roads, graph: Graph, room: CostRoom) -> Told;
+
+    /// Change.
+    fn change(&self, roads: RoadRoom, graph: Graph, room: CostRoom, arc: u32, cost: u32) -> Told;
 
     /// Distance.
     fn distance(&self, graph: Graph, costs: Costs, from: u32, to: u32) -> Told;
@@ -38,7 +41,8 @@ pub trait Subject {
 /// Both.
 pub const SUBJECTS: [&dyn Subject; 2] = [&Library, &Plain];
 
-/// Runs a call on lists, in the sequence of [`crate::lists::NAMES`]. It writes only what that call may write.
+/// Runs a call on lists, in the sequence of [`crate::lists::NAMES`], and on two numbers: from and to, or an arc and its
+/// new cost. It writes only what that call may write.
 #[inline]
 pub fn run(
     subject: &dyn Subject,
@@ -48,7 +52,6 @@ pub fn run(
 ) -> Told {
     let [tails, heads, costs, order, rank, first, row_heads, up, down, route, distances] = lists;
     let arcs = Arcs { tails, heads };
-    let roads = Roads { arcs, costs };
     let graph = Graph {
         order,
         rank,
@@ -64,9 +67,16 @@ pub fn run(
             };
             subject.build(arcs, order, room)
         }
-        Call::Customise => subject.customise(roads, graph, CostRoom { up, down }),
+        Call::Customise => subject.customise(Roads { arcs, costs }, graph, CostRoom { up, down }),
+        Call::Change => {
+            let (roads, (arc, cost)) = (RoadRoom { arcs, costs }, (from, to));
+            subject.change(roads, graph, CostRoom { up, down }, arc, cost)
+        }
         Call::Distance => subject.distance(graph, Costs { up, down }, from, to),
-        Call::Route => subject.route(roads, graph, Costs { up, down }, from, to, route),
+        Call::Route => {
+            let roads = Roads { arcs, costs };
+            subject.route(roads, graph, Costs { up, down }, from, to, route)
+        }
         Call::Sweep(way) => {
             let end = match way {
                 Way::From => from,
@@ -95,6 +105,10 @@ impl Subject for Library {
 
     fn customise(&self, roads: Roads, graph: Graph, room: CostRoom) -> Told {
         as_told(told::customise(roads, graph, room))
+    }
+
+    fn change(&self, roads: RoadRoom, graph: Graph, room: CostRoom, arc: u32, cost: u32) -> Told {
+        as_told(told::change(roads, graph, room, arc, cost))
     }
 
     fn distance(&self, graph: Graph, costs: Costs, from: u32, to: u32) -> Told {
@@ -126,6 +140,7 @@ fn as_told(told: slices::Told) -> Told {
         edges: told.edges,
         distance: told.distance,
         arcs: told.arcs,
+        triangles: told.triangles,
     }
 }
 
@@ -149,6 +164,16 @@ impl Subject for Plain {
 
     fn customise(&self, roads: Roads, graph: Graph, room: CostRoom) -> Told {
         plain::customise(roads, graph, room).map_or_else(refused, |()| Told::default())
+    }
+
+    fn change(&self, roads: RoadRoom, graph: Graph, room: CostRoom, arc: u32, cost: u32) -> Told {
+        match plain::change(roads, graph, room, arc, cost) {
+            Ok(triangles) => Told {
+                triangles,
+                ..Told::default()
+            },
+            Err(refusal) => refused(refusal),
+        }
     }
 
     fn distance(&self, graph: Graph, costs: Costs, from: u32, to: u32) -> Told {

@@ -135,7 +135,9 @@ impl Held<'_> {
             Sweep::To(_) => Way::To,
         };
         let dairy = self.sweep.dairy();
-        let told = self.lent.call(self.subject, Call::Sweep(way), dairy, dairy);
+        let told = self
+            .lent
+            .call(self.subject, Call::Sweep(way), (dairy, dairy));
         self.tally.call(expected.told);
         let list = self.lent.list(DISTANCES);
         if told != expected.told || list != expected.distances {
@@ -164,7 +166,7 @@ impl Held<'_> {
             let (from, to) = self.sweep.pair(farm as u32);
             let far = self
                 .lent
-                .call(self.subject, Call::Distance, from, to)
+                .call(self.subject, Call::Distance, (from, to))
                 .distance;
             let too_far = far != NO_WALK && far >= u64::from(CLOSED);
             let listed = self.lent.list(DISTANCES)[farm];

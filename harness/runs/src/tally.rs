@@ -15,10 +15,12 @@ pub struct Tally {
     pub pairs: u64,
     /// Sweeps asked for.
     pub swept: u64,
+    /// Changes of an arc's cost.
+    pub changed: u64,
     /// Routes driven arc by arc.
     pub driven: u64,
     /// How often each refusal was expected; at 0, how often a call was accepted.
-    pub numbers: [u64; 17],
+    pub numbers: [u64; 18],
 }
 
 impl Tally {
@@ -35,6 +37,7 @@ impl Tally {
         self.calls += other.calls;
         self.pairs += other.pairs;
         self.swept += other.swept;
+        self.changed += other.changed;
         self.driven += other.driven;
         for (sum, more) in self.numbers.iter_mut().zip(other.numbers) {
             *sum += more;
@@ -51,5 +54,5 @@ impl Tally {
 
 /// The refusals that a call can give: 14 is the program's alone.
 pub fn refusals() -> impl Iterator<Item = usize> {
-    (1..=16).filter(|&number| number != 14)
+    (1..=17).filter(|&number| number != 14)
 }

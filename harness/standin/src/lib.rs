@@ -6,7 +6,7 @@ mod wrong;
 
 pub use wrong::{fault, FAULTS};
 
-use slices::{Arcs, CostRoom, Costs, Graph, GraphRoom, Roads, Told, Way};
+use slices::{Arcs, CostRoom, Costs, Graph, GraphRoom, RoadRoom, Roads, Told, Way};
 
 /// In place of griezmuld_build.
 pub fn build(arcs: Arcs, order: &[u32], room: GraphRoom) -> Told {
@@ -21,6 +21,14 @@ pub fn customise(roads: Roads, graph: Graph, room: CostRoom) -> Told {
     match fault() {
         0 => sound::customise(roads, graph, room),
         _ => wrong::customise(roads, graph, room),
+    }
+}
+
+/// In place of griezmuld_change.
+pub fn change(roads: RoadRoom, graph: Graph, room: CostRoom, arc: u32, cost: u32) -> Told {
+    match fault() {
+        0 => sound::change(roads, graph, room, arc, cost),
+        _ => wrong::change(roads, graph, room, arc, cost),
     }
 }
 

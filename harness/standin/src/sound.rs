@@ -2,7 +2,7 @@
 
 use crate::{Asked, Swept};
 use plain::{Drive, Refusal};
-use slices::{Arcs, CostRoom, Costs, Graph, GraphRoom, Roads, Told};
+use slices::{Arcs, CostRoom, Costs, Graph, GraphRoom, RoadRoom, Roads, Told};
 
 fn refused(refusal: Refusal) -> Told {
     Told {
@@ -25,6 +25,16 @@ pub fn build(arcs: Arcs, order: &[u32], room: GraphRoom) -> Told {
 pub fn customise(roads: Roads, graph: Graph, room: CostRoom) -> Told {
     match plain::customise(roads, graph, room) {
         Ok(()) => Told::default(),
+        Err(refusal) => refused(refusal),
+    }
+}
+
+pub fn change(roads: RoadRoom, graph: Graph, room: CostRoom, arc: u32, cost: u32) -> Told {
+    match plain::change(roads, graph, room, arc, cost) {
+        Ok(triangles) => Told {
+            triangles,
+            ..Told::default()
+        },
         Err(refusal) => refused(refusal),
     }
 }

@@ -310,13 +310,14 @@ impl Run {
             failed += 1;
         }
         println!(
-            "{}: {} nets, {} sets of garbage lists, {} pairs, {} sweeps, {} routes driven, {} calls compared in {} s: {failed} failed",
+            "{}: {} nets, {} sets of garbage lists, {} pairs, {} sweeps, {} routes driven, {} changes, {} calls compared in {} s: {failed} failed",
             calls::linked(),
             tally.nets,
             tally.garbage,
             tally.pairs,
             tally.swept,
             tally.driven,
+            tally.changed,
             tally.calls,
             self.start.elapsed().as_secs()
         );

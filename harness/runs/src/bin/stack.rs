@@ -14,28 +14,37 @@ const MOST_STEPS: usize = 1_024;
 /// Bytes of each thread's stack that are taken before the call, as no system makes a thread with a very small stack.
 const TAKEN: usize = 262_144;
 
+/// What is measured: every call on few edges, and a change on more than 65,536.
+const TASKS: usize = CALLS.len() + 1;
+
 fn main() {
     let words: Vec<String> = std::env::args().skip(1).collect();
-    if let [who, call, size] = &words[..] {
-        let (Ok(call), Ok(size)) = (call.parse::<usize>(), size.parse()) else {
+    if let [who, task, size] = &words[..] {
+        let (Ok(task), Ok(size)) = (task.parse(), size.parse()) else {
             exit(2);
         };
-        attempt(who == "library", CALLS[call], size);
+        attempt(who == "library", task, size);
     }
     println!("linked: {}", calls::linked());
-    println!("call        library   plain Rust   (bytes of stack, to the next 16,384)");
-    for (at, call) in CALLS.iter().enumerate() {
-        let [library, plain] = ["library", "plain"].map(|who| least(who, at));
-        println!("{:10} {library:>8} {plain:>12}", call.name());
+    println!(
+        "call                       library   plain Rust   (bytes of stack, to the next 16,384)"
+    );
+    for task in 0..TASKS {
+        let name = match CALLS.get(task) {
+            Some(call) => call.name(),
+            None => "change, E over 65,536",
+        };
+        let [library, plain] = ["library", "plain"].map(|who| least(who, task));
+        println!("{name:25} {library:>8} {plain:>12}");
     }
 }
 
 /// The least stack on which a call returns. An attempt with less ends its process, so each has its own.
-fn least(who: &str, call: usize) -> usize {
+fn least(who: &str, task: usize) -> usize {
     let returns = |steps: usize| {
         let program = std::env::current_exe().expect("this program");
         let status = Command::new(program)
-            .args([who, &call.to_string(), &(steps * STEP).to_string()])
+            .args([who, &task.to_string(), &(steps * STEP).to_string()])
             .stdout(Stdio::null())
             .stderr(Stdio::null())
             .status();
@@ -53,11 +62,15 @@ fn least(who: &str, call: usize) -> usize {
 }
 
 /// Makes the call on a thread with so much stack, and ends the process well if it returns.
-fn attempt(library: bool, call: Call, size: usize) -> ! {
-    let (lists, mut lent) = deepest(call);
+fn attempt(library: bool, task: usize, size: usize) -> ! {
+    let (call, lists) = match CALLS.get(task) {
+        Some(&call) => (call, before(call, path())),
+        None => (Call::Change, before(Call::Change, all_joined())),
+    };
+    let mut lent = Lent::new(&lists);
     let run = move || {
         let subject: &dyn Subject = if library { &Library } else { &Plain };
-        lent.call(subject, call, lists.from, lists.to).number
+        lent.call(subject, call, lists.numbers(call)).number
     };
     let thread = thread::Builder::new().stack_size(TAKEN + size);
     let thread = thread.spawn(|| with_less_stack(run));
@@ -76,14 +89,14 @@ fn with_less_stack(run: impl FnOnce() -> u32) -> u32 {
 }
 
 /// A path of 4,096 junctions with both ends last in the order: one shortcut spans it, and is opened some 4,000 deep.
-fn deepest(call: Call) -> (Lists, Lent) {
+fn path() -> Lists {
     let n = 4_096;
     let last = n as u32 - 1;
     let mut order = order::by_number(n);
     order.remove(0);
     order.insert(n - 2, 0);
     let edges = 2 * (n - 2) + 1;
-    let mut lists = Lists {
+    Lists {
         tails: (0..last).collect(),
         heads: (1..=last).collect(),
         costs: vec![500_000; n - 1],
@@ -97,15 +110,36 @@ fn deepest(call: Call) -> (Lists, Lent) {
         distances: stale(n),
         from: 0,
         to: last,
-    };
-    for before in CALLS {
-        if before == call {
-            break;
-        }
-        let mut lent = Lent::new(&lists);
-        lent.call(&Plain, before, lists.from, lists.to);
-        lists = lent.into_lists(lists.from, lists.to);
+        arc: 1,
+        cost: 1,
     }
-    let lent = Lent::new(&lists);
-    (lists, lent)
+}
+
+/// A star with its centre first: every two of its 363 junctions are joined.
+fn all_joined() -> Lists {
+    let n = 363;
+    let edges = n * (n - 1) / 2;
+    Lists {
+        tails: vec![0; n - 1],
+        heads: (1..n as u32).collect(),
+        costs: vec![2; n - 1],
+        order: order::by_number(n),
+        rank: stale(n),
+        first: stale(n + 1),
+        row_heads: stale(edges),
+        up: stale(edges),
+        down: stale(edges),
+        cost: 1,
+        ..Lists::default()
+    }
+}
+
+/// The lists as those calls leave them that come before a call.
+fn before(call: Call, mut lists: Lists) -> Lists {
+    for earlier in CALLS.into_iter().take_while(|&earlier| earlier != call) {
+        let mut lent = Lent::new(&lists);
+        lent.call(&Plain, earlier, lists.numbers(earlier));
+        lists = lent.into_lists(&lists);
+    }
+    lists
 }

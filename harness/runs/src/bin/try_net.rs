@@ -2,7 +2,7 @@
 //! Dijkstra and Floyd-Warshall.
 
 use cases::words::Words;
-use cases::Case;
+use cases::{Case, Change};
 use nets::{dimacs, order, Net};
 use runs::caught::{caught, silence};
 use runs::judge;
@@ -99,7 +99,8 @@ impl Given {
         })
     }
 
-    /// The net as it is, asked once more after the closures with nothing redone; then with the closures from the start.
+    /// The net as it is, asked once more after the closures with nothing redone, and after they came one by one; then
+    /// with the closures from the start, and opened again one by one.
     fn try_all(&self, options: &Options) -> i32 {
         let mut case = Case::on(&self.net, self.order.clone());
         case.seed = options.seed;
@@ -113,12 +114,15 @@ impl Given {
         println!("E: {}", case.graph().edges());
         let pairs = options.pairs.unwrap_or(judge::usual_pairs(case.n));
         let Some(closed) = &self.closed else {
+            case.change_some(6);
             return summed(&[try_one("as it is", &case, pairs)]);
         };
         case.later = closed.clone();
+        case.changes = turns(&self.net.costs, closed);
         let name = "as it is, then arcs closed with nothing redone";
         let before = try_one(name, &case, pairs);
         case.costs = closed.clone();
+        case.changes = turns(closed, &self.net.costs);
         let shut = closed.iter().zip(&self.net.costs);
         let shut = shut.filter(|(now, before)| now != before).count();
         let after = try_one(
@@ -128,6 +132,17 @@ impl Given {
         );
         summed(&[before, after])
     }
+}
+
+/// How many closures come one by one at most.
+const MOST_TURNS: usize = 12;
+
+/// The first arcs whose costs differ, each getting its new cost in turn.
+fn turns(old: &[u32], new: &[u32]) -> Vec<Change> {
+    let costs = old.iter().zip(new).enumerate();
+    let differ = costs.filter(|(_, (old, new))| old != new);
+    let turns = differ.map(|(arc, (_, &cost))| Change { arc, cost });
+    turns.take(MOST_TURNS).collect()
 }
 
 fn order_of(options: &Options, net: &Net) -> Result<(Vec<u32>, String), String> {
@@ -151,8 +166,8 @@ fn try_one(name: &str, case: &Case, pairs: usize) -> bool {
     match caught(|| judge::judge_asking(case, pairs)) {
         Ok(tally) => {
             println!(
-                "{name}: {} pairs, {} sweeps, {} routes driven, {} calls compared: nothing differs",
-                tally.pairs, tally.swept, tally.driven, tally.calls
+                "{name}: {} pairs, {} sweeps, {} routes driven, {} changes, {} calls compared: nothing differs",
+                tally.pairs, tally.swept, tally.driven, tally.changed, tally.calls
             );
             true
         }

@@ -3,13 +3,14 @@
 use super::tables::{Kind, Table};
 
 /// The calls, and whether Dijkstra answers the same question.
-pub const CALLS: [(&str, bool); 6] = [
+pub const CALLS: [(&str, bool); 7] = [
     ("build", false),
     ("customise", false),
     ("distance", true),
     ("route", true),
     ("sweep_from", true),
     ("sweep_to", true),
+    ("change", false),
 ];
 
 /// Whose numbers a line shows, as the legend and the style name them.

@@ -288,7 +288,7 @@ Microseconds:
         assert!(picture.contains("plain Rust, build, 1024 junctions: 72.3<"));
         assert!(picture.contains("library, route, 1024 junctions: 78.6<"));
         assert_eq!(picture.matches("<circle").count(), 3 + 5);
-        assert_eq!(picture.matches("not measured").count(), 4 + 6);
+        assert_eq!(picture.matches("not measured").count(), 5 + 7);
         assert!(!picture.contains("NaN") && !picture.contains("inf"));
     }
 

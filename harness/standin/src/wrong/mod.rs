@@ -2,9 +2,11 @@
 
 #![allow(unsafe_code)]
 
+mod changes;
 mod sloppy;
 mod sweeps;
 
+pub use changes::change;
 pub use sweeps::sweep;
 
 use crate::{sound, Asked};
@@ -28,7 +30,7 @@ pub const fn fault() -> u32 {
 }
 
 /// What each fault is, in words.
-pub const FAULTS: [&str; 69] = [
+pub const FAULTS: [&str; 95] = [
     "refuses all",
     "distance and route always say none",
     "distance and route always say 0",
@@ -98,6 +100,32 @@ pub const FAULTS: [&str; 69] = [
     "a sweep doesn't test the parent rule",
     "a sweep refuses n = 4,096",
     "one place past the distance list is written",
+    "change leaves the arcs' costs",
+    "change counts each triangle twice",
+    "change counts a triangle for each direction that changed",
+    "change reconsiders every edge",
+    "change reconsiders only the edge between the arc's ends",
+    "change doesn't see a down cost that changed",
+    "change makes places past E CLOSED",
+    "change stops at the first edge that stays as it was",
+    "change holds a new up cost to the old down cost",
+    "an arc number just past the last is accepted",
+    "9 for the new cost is told before 17",
+    "the place of 9 for the new cost is 0",
+    "a refused new cost stays in the cost list",
+    "change cuts a sum over CLOSED to 32 bits",
+    "change takes a hidden arc for one in force",
+    "change reconsiders the arc's edge at an equal cost",
+    "change leaves the other direction of the arc's edge",
+    "one place past the up list is written by change",
+    "change adds up the costs of before",
+    "change mends a standing cost that is at fault",
+    "change refuses n = 4,096",
+    "change forgets what changed past 65,536 edges",
+    "change refuses to close an arc",
+    "change leaves the shortcut costs",
+    "17 is told before 9 for a standing cost",
+    "change counts only triangles with a changed edge",
 ];
 
 /// 1: the refusal of everything.
@@ -107,6 +135,7 @@ const NO: Told = Told {
     edges: 0,
     distance: 0,
     arcs: 0,
+    triangles: 0,
 };
 
 /// The arcs' heads and costs as a faulty check sees them.

@@ -6,24 +6,24 @@ use plain::CLOSED;
 use slices::{Arcs, CostRoom, Costs, Graph, GraphRoom, Roads, Told};
 
 /// Rows of higher neighbours, as lists say them.
-struct Rows<'a> {
+pub struct Rows<'a> {
     first: &'a [u32],
     heads: &'a [u32],
 }
 
 impl<'a> Rows<'a> {
-    fn of(graph: Graph<'a>) -> Rows<'a> {
+    pub fn of(graph: Graph<'a>) -> Rows<'a> {
         Rows {
             first: graph.first,
             heads: graph.row_heads,
         }
     }
 
-    fn row(&self, p: usize) -> &[u32] {
+    pub fn row(&self, p: usize) -> &[u32] {
         &self.heads[self.first[p] as usize..self.first[p + 1] as usize]
     }
 
-    fn place(&self, a: usize, b: usize) -> Option<usize> {
+    pub fn place(&self, a: usize, b: usize) -> Option<usize> {
         let (low, high) = (a.min(b), a.max(b));
         let at = self
             .row(low)
@@ -78,7 +78,7 @@ pub fn join_input_neighbours(arcs: Arcs, room: GraphRoom) -> u64 {
 }
 
 /// The arc that counts between two junctions. Fault 24: the first listing; fault 25: the last that isn't closed.
-fn road(roads: Roads, from: u32, to: u32) -> Option<(u32, u32)> {
+pub fn road(roads: Roads, from: u32, to: u32) -> Option<(u32, u32)> {
     let (Arcs { tails, heads }, costs) = (roads.arcs, roads.costs);
     let listed = |&arc: &usize| tails[arc] == from && heads[arc] == to && from != to;
     let mut arcs: Vec<usize> = (0..tails.len()).filter(listed).collect();
