@@ -45,8 +45,8 @@
  *   rank, first and row_heads before it turns to the question itself, and a route through the arcs besides. On 4,096
  *   junctions with 12,794 arcs and 53,884 edges, on the machine of docs/BENCHMARKS.md, a distance takes some 0.2
  *   milliseconds, most of it checks, a route 0.6, build 0.5 and customise 3.5. A change takes 1.0 there, in the mean over
- *   arcs chosen anyhow; the arc that takes longest takes half of customise's instructions. Where many costs change at once,
- *   customise comes cheaper.
+ *   arcs chosen anyhow; the dearest of 64 arcs took half of customise's instructions there, and on a path where one arc
+ *   changes every row one and a half of them. Where many costs change at once, customise comes cheaper.
  *   Many distances from one junction, or to one, come cheaper by a sweep: it makes its checks once.
  *
  * Replies
