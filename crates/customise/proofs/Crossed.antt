@@ -15,8 +15,8 @@ use Rattle.theory.specs.Rows.{InRow, Rows, Lists, count}
 use Rattle.theory.proofs.Words.{either, same-or-not}
 use Rattle.theory.proofs.Rows.{in-heads, in-row-i, next-row, lists-same, row-of, once}
 use Rattle.lists.specs.Lent.{chosen}
-use Rattle.turns.specs.Edges.{across, atMost}
-use Rattle.customise.specs.Turns.{Spread, Within, lowered, Beside, Third, Crossed}
+use Rattle.turns.specs.Edges.{atMost}
+use Rattle.customise.specs.Turns.{Spread, Within, lowered, Beside, Third, Crossed, across}
 use Rattle.turns.proofs.Stored.{Stored, stored}
 
 -- ---- one triangle

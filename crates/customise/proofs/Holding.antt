@@ -21,9 +21,9 @@ use Rattle.theory.proofs.Words.{either, split, same-or-not, true-holds, holds-t
 use Rattle.theory.proofs.Rows.{in-row-i, next-row, before, row-of, linked-e, linked-i, place-is}
 use Rattle.theory.proofs.Customised.{customised-is}
 use Rattle.lists.specs.Lent.{chosen}
-use Rattle.turns.specs.Edges.{At, across}
+use Rattle.turns.specs.Edges.{At}
 use Rattle.turns.specs.Waiting.{Turn, PassedBelow}
-use Rattle.customise.specs.Turns.{Crossed, Shut, Risen}
+use Rattle.customise.specs.Turns.{Crossed, Shut, Risen, across}
 use Rattle.turns.proofs.At.{at-as}
 use Rattle.turns.proofs.Stored.{Stored}
 

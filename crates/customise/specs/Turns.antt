@@ -4,13 +4,13 @@ use mathlib.Core.Path.{_≡_}
 use mathlib.Core.List.{List}
 use lib.ListN.{length, getD}
 use Rattle.rules.specs.declared.Direction.{Direction}
-use Rattle.rules.specs.Costs.{closed}
+use Rattle.rules.specs.Costs.{closed, sum}
 use Rattle.rules.specs.Graph.{Graph}
 use Rattle.rules.specs.Hierarchy.{EdgeCosts, edgeCosts, along, linked}
 use Rattle.rules.specs.Customised.{customised}
 use Rattle.theory.specs.Rows.{InRow, Lists, count}
 use Rattle.lists.specs.Lent.{chosen}
-use Rattle.turns.specs.Edges.{At, Kept, across, atMost}
+use Rattle.turns.specs.Edges.{At, Kept, atMost}
 
 -- ---- one triangle
 
@@ -18,6 +18,10 @@ use Rattle.turns.specs.Edges.{At, Kept, across, atMost}
 pub record Within (C : EdgeCosts) (k : ℕ) : Type 0 where
   pub up-in : k < length (C .up)
   pub down-in : k < length (C .down)
+
+-- from the neighbour at place a of a row over the row's position to the neighbour at place b
+abbrev pub across : (C : EdgeCosts) (a b : ℕ) → ℕ
+across C a b = sum (getD (C .down) a 0) (getD (C .up) b 0)
 
 -- the edge at place k, between the neighbours at places i and j of a row, costs no more than the way across, in both directions
 abbrev pub lowered : (i j k : ℕ) (C : EdgeCosts) → EdgeCosts

@@ -3,3 +3,4 @@ pub mod Stored
 pub mod Kept
 pub mod Waiting
 pub mod Meeting
+pub mod Stretches
