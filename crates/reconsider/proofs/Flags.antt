@@ -1,22 +1,35 @@
--- One flag set, the others as they were. Assumes nothing.
+-- The word and the bit of a place; one flag set, the others as they were. Assumes nothing.
 use Prim.Native.Nat.{ℕ, zero, suc, _+_, _-_, _*_, _/_, _%_, _^_, _≤_, _<_}
 use mathlib.Core.Path.{_≡_, refl, sym, ap, _∙_}
 use mathlib.Core.Logic.{_≢_}
 use mathlib.Core.List.{List}
 use native.Mathlib.Omega.{arith}
 use native.Mathlib.Nat.{div-add-mod', mod-lt, div-lt-iff-lt-mul}
-use lib.Bits.{bitOr, or-shr, or-mod, or-zero-r, shifted-even}
-use lib.Pow.{pow-add, pow-lt, shl-exact, shl-shr, shr-lt}
+use lib.Bits.{bitOr, or-shr, or-mod, or-zero-r}
+use lib.Pow.{pow-lt, shl-exact, shl-shr, shr-shr, shr-lt}
 use lib.Dec.{eqb, ltb}
 use lib.ListN.{length, getD, set}
 use borrow.Author.Tests.{ltb-true, ltb-false}
 use Rattle.theory.proofs.Words.{either, split, eqb-i, same-or-not}
 use Rattle.turns.proofs.Stored.{stored}
 use Rattle.reconsider.specs.Flags.{flagged, Flagged}
+use Rattle.reconsider.proofs.Bits.{shifted-off}
 
 -- a place before E has a word
 pub word-in : (k e words : ℕ) → k < e → e ≤ words * 64 → k / 64 < words
 word-in k e words l h = div-lt-iff-lt-mul {k = 64} {x = k} {y = words} (omega arith) .1 (omega arith)
+
+-- the word of a place, from the bit of that place on
+abbrev pub wordFrom : (flags : List ℕ) (from : ℕ) → ℕ
+wordFrom flags from = getD flags (from / 64) 0 / 2 ^ (from % 64)
+
+-- it has the flags of the later places of the word
+pub flag-bit : (flags : List ℕ) (from k : ℕ) → from ≤ k → k < (from / 64 + 1) * 64 → flagged flags k ≡ eqb (wordFrom flags from / 2 ^ (k - from) % 2) 1
+unfolding flagged
+flag-bit flags from k h l =
+    let at : k / 64 ≡ from / 64 = omega arith in
+    let bit : k % 64 ≡ from % 64 + (k - from) = omega arith in
+    rw (at, bit) (ap (λ v. eqb (v % 2) 1) (sym (shr-shr (getD flags (from / 64) 0) (from % 64) (k - from))))
 
 -- ---- the bits of a power of two
 
@@ -24,14 +37,7 @@ word-in k e words l h = div-lt-iff-lt-mul {k = 64} {x = k} {y = words} (omega ar
 one-here : (b : ℕ) → 1 * 2 ^ b / 2 ^ b % 2 ≡ 1
 one-here b = ap (λ v. v % 2) (shl-shr 1 b)
 
--- those below are not: the number of places between told
-shifted : (b c d : ℕ) → b ≡ suc d + c → 1 * 2 ^ b / 2 ^ c % 2 ≡ 0
-shifted b c d e =
-    let p : 1 * 2 ^ b ≡ 2 ^ suc d * 2 ^ c = omega (arith, ap (λ v. 2 ^ v) e, pow-add 2 (suc d) c) in
-    let q : 2 ^ suc d ≡ 1 * 2 ^ suc d = omega arith in
-    ap (λ v. v / 2 ^ c % 2) p ∙ ap (λ v. v % 2) (shl-shr (2 ^ suc d) c) ∙ ap (λ v. v % 2) q ∙ shifted-even 1 d
-
--- nor those above
+-- those above are not
 one-above : (b c : ℕ) → b < c → 1 * 2 ^ b / 2 ^ c % 2 ≡ 0
 one-above b c h =
     let l : 1 * 2 ^ b < 2 ^ (0 + c) = let e : 0 + c ≡ c = omega arith in rw e (omega (arith, pow-lt h)) in
@@ -61,7 +67,7 @@ bit-off : (w b c : ℕ) → c ≢ b → bitOr w (1 * 2 ^ b) / 2 ^ c % 2 ≡ w / 
 bit-off w b c d =
     bit-of w (1 * 2 ^ b) c
     ∙ ap (bitOr (w / 2 ^ c % 2))
-    (either (split (ltb c b)) (λ s. shifted b c (b - suc c) (omega (arith, ltb-true c b s)))
+    (either (split (ltb c b)) (λ s. shifted-off 1 b c (ltb-true c b s))
     (λ s. one-above b c (omega (arith, ltb-false c b s))))
     ∙ or-zero-r (w / 2 ^ c % 2)
 

@@ -1,135 +1,106 @@
 -- Marks, place by place and row by row. Assumes nothing.
-use Prim.Native.Nat.{ℕ, _+_, _*_, _/_, _≤_, _<_}
+use Prim.Native.Nat.{ℕ, _+_, _-_, _≤_, _<_}
 use mathlib.Core.Path.{_≡_, refl, sym, ap, _∙_, subst}
 use mathlib.Core.Logic.{inl, inr}
-use mathlib.Core.Bool.{Bool, false, _||_}
+use mathlib.Core.Bool.{Bool, true, false, _||_}
 use mathlib.Core.List.{List}
 use native.Mathlib.Omega.{arith}
-use lib.Dec.{T}
-use lib.ListN.{length, getD}
+use lib.Dec.{T, ltb}
+use lib.ListN.{length, getD, set}
+use borrow.Author.Tests.{ltb-true, ltb-false}
 use Rattle.rules.specs.Graph.{Graph}
 use Rattle.theory.specs.Rows.{InRow}
-use Rattle.theory.proofs.Words.{either, or-e, same-or-not}
+use Rattle.theory.proofs.Words.{either, split, or-e, same-or-not}
 use Rattle.theory.proofs.Rows.{next-row, in-row-i, in-heads, once, before}
-use Rattle.turns.specs.Edges.{edgesOf}
+use Rattle.turns.specs.Edges.{edgesOf, Stretch}
 use Rattle.turns.specs.Waiting.{Turn}
 use Rattle.turns.specs.Met.{Met, AllMet}
 use Rattle.turns.proofs.Stored.{stored}
+use Rattle.turns.proofs.Stretches.{stretch-row, stretch-part}
 use Rattle.reconsider.specs.Flags.{flagged}
-use Rattle.reconsider.specs.Marks.{says, Dirty, MarkedAt, set-here, not-here, Marked, Cause, road-changed, row-changed, MarkedRow}
+use Rattle.reconsider.specs.Marks.{says, Dirty, MarkedOf, Cause, road-changed, row-changed, MarkedRow}
 use Rattle.reconsider.proofs.Said.{says-e, said-here, said-still, said-only}
-use Rattle.reconsider.proofs.Flags.{word-in}
 
--- ---- what a list says of a position
+-- ---- the places, some after others
 
--- neither of two tests holds
-pub neither : (n b r : Bool) → n ≡ false → r ≡ b → r ≡ false → T (n || b) → ⊥
-neither n b r en e d t = rw (en, sym e ∙ d) at t
+module _ {heads : List ℕ} {yes : ℕ → Bool} where
+  -- places of which none is to be marked
+  pub marked-off : {a b : ℕ} {marks : List ℕ} → ((k : ℕ) → a ≤ k → k < b → T (yes k) → ⊥) → MarkedOf heads yes a b marks marks
+  marked-off none = record { long = refl; hit = λ k h l t. absurd (none k h l t); stay = λ y t. t; made = λ y t. inl t }
 
--- ---- the places of a row, one after the other
-
-module _ {G : Graph} {flags : List ℕ} {i : ℕ} {marks₀ : List ℕ} where
-  -- nothing comes between a place and the next
-  pub marked-none : {j : ℕ} → j ≡ i + 1 → Marked G flags i j marks₀ marks₀
-  marked-none e = record { long = refl; hit = λ b h l t. absurd (omega arith); stay = λ y t. t; made = λ y t. inl t }
-
-  -- one place more
-  pub marked-more : {j y : ℕ} {marks marks′ : List ℕ} → Marked G flags i j marks₀ marks → i < j → y ≡ getD (G .heads) j 0 → y < length marks
-      → MarkedAt y (flagged flags i || flagged flags j) marks marks′ → Marked G flags i (j + 1) marks₀ marks′
-  marked-more {j} {y} {marks} {marks′} M ij ey seat (set-here t e) =
+  -- one place, which is
+  pub marked-one : {j y : ℕ} {marks marks′ : List ℕ} → T (yes j) → y ≡ getD heads j 0 → y < length marks → marks′ ≡ set marks y 1
+      → MarkedOf heads yes j (j + 1) marks marks′
+  marked-one {j} {y} {marks} {marks′} t ey seat e =
       let s = stored marks marks′ y 1 e seat in
       record {
-        long = s .long ∙ M .long;
-        hit = λ b h l u.
-            either (same-or-not b j)
-            (λ d. subst (λ v. T (says marks′ v)) (ey ∙ ap (λ v. getD (G .heads) v 0) (sym d)) (said-here s))
-            (λ d. said-still s (getD (G .heads) b 0) (M .hit b h (omega arith) u));
-        stay = λ w u. said-still s w (M .stay w u);
-        made = λ w u.
-            either (said-only s w u)
-            (λ d. inr (j, ij, omega arith, sym ey ∙ sym d, t))
-            (λ a.
-            either (M .made w a) (λ v. inl v)
-            (λ v. inr (v .0, v .1, omega (arith, v .2), v .3, v .4)));
+        long = s .long;
+        hit = λ k h l u.
+            let same : j ≡ k = omega arith in
+            subst (λ v. T (says marks′ v)) (ey ∙ ap (λ v. getD heads v 0) same) (said-here s);
+        stay = said-still s;
+        made = λ w u. either (said-only s w u) (λ d. inr (j, omega arith, omega arith, sym ey ∙ sym d, t)) (λ a. inl a);
       }
-  marked-more {j} {y} {marks} {marks′} M ij ey seat (not-here n e) =
+
+  -- those up to b, then those from b on
+  pub marked-join : {a b c : ℕ} {marks₀ marks marks′ : List ℕ} → a ≤ b → b ≤ c → MarkedOf heads yes a b marks₀ marks → MarkedOf heads yes b c marks marks′
+      → MarkedOf heads yes a c marks₀ marks′
+  marked-join {b = b} ab bc M N =
+      record {
+        long = N .long ∙ M .long;
+        hit = λ k h l t.
+            either (split (ltb k b))
+            (λ d. N .stay (getD heads k 0) (M .hit k h (ltb-true k b d) t))
+            (λ d. N .hit k (ltb-false k b d) l t);
+        stay = λ y t. N .stay y (M .stay y t);
+        made = λ y t.
+            either (N .made y t)
+            (λ u. either (M .made y u) (λ v. inl v) (λ v. inr (v .0, v .1, omega (arith, v .2), v .3, v .4)))
+            (λ v. inr (v .0, omega (arith, v .1), v .2, v .3, v .4));
+      }
+
+  -- the end told in another way
+  pub marked-end : {a b c : ℕ} {marks marks′ : List ℕ} → b ≡ c → MarkedOf heads yes a b marks marks′ → MarkedOf heads yes a c marks marks′
+  marked-end {a} {marks = marks} {marks′ = marks′} e M = subst (λ v. MarkedOf heads yes a v marks marks′) e M
+
+module _ {heads : List ℕ} (flags : List ℕ) (i : ℕ) where
+  -- where place i is flagged all others are to be marked
+  pub marked-near : {a b : ℕ} {marks marks′ : List ℕ} → flagged flags i ≡ true → MarkedOf heads (λ k. true) a b marks marks′
+      → MarkedOf heads (λ k. flagged flags i || flagged flags k) a b marks marks′
+  marked-near e M = rw e M
+
+  -- and where it is not, those that are flagged: it is not one of them
+  pub marked-later : {b : ℕ} {marks marks′ : List ℕ} → flagged flags i ≡ false → MarkedOf heads (flagged flags) i b marks marks′
+      → MarkedOf heads (λ k. flagged flags i || flagged flags k) (i + 1) b marks marks′
+  marked-later e M =
       rw e (record {
         long = M .long;
-        hit = λ b h l u.
-            either (same-or-not b j)
-            (λ d. absurd (n (subst (λ v. T (flagged flags i || flagged flags v)) d u)))
-            (λ d. M .hit b h (omega arith) u);
+        hit = λ k h l t. M .hit k (omega arith) l t;
         stay = M .stay;
-        made = λ w u. either (M .made w u) (λ v. inl v) (λ v. inr (v .0, v .1, omega (arith, v .2), v .3, v .4));
+        made = λ y t.
+            either (M .made y t) (λ v. inl v)
+            (λ v.
+            either (same-or-not (v .0) i) (λ d. absurd (subst T (ap (flagged flags) d ∙ e) (v .4)))
+            (λ d. inr (v .0, omega (arith, v .1), v .2, v .3, v .4)));
       })
 
--- the places of the row of z behind i and before j have had their turn
-pub record Marking (G : Graph) (flags : List ℕ) (z i end : ℕ) (near : Bool) (marks₀ : List ℕ) (j : ℕ) (marks : List ℕ) : Type 0 where
-  pub end-is : end ≡ getD (G .first) (z + 1) 0
-  pub near-is : near ≡ flagged flags i
-  pub later : i < j
-  pub within : j ≤ end
-  pub marked : Marked G flags i j marks₀ marks
+-- ---- the row of z from place i on
 
 module _ {G : Graph} {z i : ℕ} (U : Turn G z) (r : InRow G z i) where
-  -- the row's end is listed
-  pub end-listed : z + 1 < length (G .first)
-  end-listed = omega (arith, U .rows .long, U .under)
-
-  -- a place from i on can be read, and has a word and a position
-  pub place-word : (words : ℕ) → edgesOf G ≤ words * 64 → (k : ℕ) → i ≤ k → k < getD (G .first) (z + 1) 0
-      → (k < length (G .heads)) × (k / 64 < words) × (getD (G .heads) k 0 < 4096)
-  place-word words h k a b =
-      let s = in-row-i G z k (omega (arith, r .low)) b in
-      let (e, l) = in-heads (U .rows) z k (U .under) s in
-      (l, word-in k (edgesOf G) words e h, omega (arith, U .few, U .rows .below z k (U .under) s))
-
-  -- place i itself
-  pub own-word : (words : ℕ) → edgesOf G ≤ words * 64 → (i < length (G .heads)) × (i / 64 < words)
-  own-word words h = let (a, b, c) = place-word words h i (omega arith) (omega (arith, r .high, next-row G z)) in (a, b)
-
-  -- none yet
-  pub marking-start : {flags marks : List ℕ} {near : Bool} {end j : ℕ} → end ≡ getD (G .first) (z + 1) 0 → near ≡ flagged flags i → j ≡ i + 1
-      → Marking G flags z i end near marks j marks
-  marking-start e en ej =
-      record { end-is = e; near-is = en; later = omega arith; within = omega (arith, r .high, next-row G z); marked = marked-none ej }
-
-  module _ {flags marks₀ marks : List ℕ} {near : Bool} {end j : ℕ} (K : Marking G flags z i end near marks₀ j marks) where
-    -- the next place can be read
-    pub next-reads : (words : ℕ) → edgesOf G ≤ words * 64 → j < end → (j < length (G .heads)) × (j / 64 < words) × (getD (G .heads) j 0 < 4096)
-    next-reads words h l = place-word words h j (omega (arith, K .later)) (omega (arith, K .end-is))
-
-    -- one more
-    pub marking-more : {y : ℕ} {marks′ : List ℕ} → length marks₀ ≡ 4096 → j < end → y ≡ getD (G .heads) j 0
-        → MarkedAt y (near || flagged flags j) marks marks′ → Marking G flags z i end near marks₀ (j + 1) marks′
-    marking-more {y} {marks′} e l ey A =
-        let s = in-row-i G z j (omega (arith, r .low, K .later)) (omega (arith, K .end-is)) in
-        record {
-          end-is = K .end-is;
-          near-is = K .near-is;
-          later = omega (arith, K .later);
-          within = omega arith;
-          marked = marked-more (K .marked) (K .later) ey (omega (arith, K .marked .long, U .few, U .rows .below z j (U .under) s))
-              (subst (λ v. MarkedAt y (v || flagged flags j) marks marks′) (K .near-is) A);
-        }
-
-    -- all
-    pub marking-all : end ≤ j → Marked G flags i (getD (G .first) (z + 1) 0) marks₀ marks
-    marking-all l =
-        let e : j ≡ getD (G .first) (z + 1) 0 = omega (arith, K .within, K .end-is) in
-        subst (λ v. Marked G flags i v marks₀ marks) e (K .marked)
+  -- the row's end is behind place i and no further than the edges go, and the row goes on up to it
+  pub row-end : {end : ℕ} → end ≡ getD (G .first) (z + 1) 0 → (i < end) × (end ≤ edgesOf G) × Stretch (G .heads) i end
+  row-end {end} e =
+      let h : i < end = omega (arith, r .high, next-row G z) in
+      let last = in-row-i G z (end - 1) (omega (arith, r .low)) (omega arith) in
+      (h, omega (arith, in-heads (U .rows) z (end - 1) (U .under) last), stretch-part (stretch-row U r) (omega arith) (omega arith))
 
   -- a row without a flagged place marks nothing
-  pub marked-clean : {flags dirty marks : List ℕ} → Dirty G flags dirty → getD dirty z 0 ≡ 0 → Marked G flags i (getD (G .first) (z + 1) 0) marks marks
+  pub marked-clean : {flags dirty marks : List ℕ} → Dirty G flags dirty → getD dirty z 0 ≡ 0
+      → MarkedOf (G .heads) (λ k. flagged flags i || flagged flags k) (i + 1) (getD (G .first) (z + 1) 0) marks marks
   marked-clean {flags} {dirty} D e =
       let clean : (k : ℕ) → InRow G z k → T (flagged flags k) → ⊥ = λ k s t. says-e dirty z (D .shown z k (U .under) s t) e in
-      record {
-        long = refl;
-        hit = λ b h l t.
-            absurd (either (or-e (flagged flags i) (flagged flags b) t) (clean i r) (clean b (in-row-i G z b (omega (arith, r .low)) l)));
-        stay = λ y t. t;
-        made = λ y t. inl t;
-      }
+      marked-off (λ k h l t.
+      either (or-e (flagged flags i) (flagged flags k) t) (clean i r) (clean k (in-row-i G z k (omega (arith, r .low)) l)))
 
 -- ---- the rows met, one after the other
 
@@ -158,7 +129,7 @@ module _ {G : Graph} {x : ℕ} (U : Turn G x) {m : ℕ} {met at : List ℕ} (M :
   module _ {flags marks₀ : List ℕ} {t : ℕ} {marks : List ℕ} (K : Rowing G flags met x marks₀ t marks) where
     -- one more
     pub rowing-more : {z i : ℕ} {marks′ : List ℕ} → t < m → z ≡ getD met t 0 → i ≡ getD at t 0
-        → Marked G flags i (getD (G .first) (z + 1) 0) marks marks′ → Rowing G flags met x marks₀ (t + 1) marks′
+        → MarkedOf (G .heads) (λ k. flagged flags i || flagged flags k) (i + 1) (getD (G .first) (z + 1) 0) marks marks′ → Rowing G flags met x marks₀ (t + 1) marks′
     rowing-more {z} {i} {marks′} l e ei D =
         let (zx, W, r, ex) = met-place l e ei in
         record {
@@ -171,7 +142,7 @@ module _ {G : Graph} {x : ℕ} (U : Turn G x) {m : ℕ} {met at : List ℕ} (M :
               let ra′ = subst (λ v. InRow G v a) same ra in
               let rb′ = subst (λ v. InRow G v b) same rb in
               let p = once (W .rows) z a i (W .under) ra′ r (ea ∙ sym ex) in
-              D .hit b (before G z i b (λ c d. W .rows .climb z c d (W .under)) r rb′ (omega arith)) (omega (arith, rb′ .high, next-row G z))
+              D .hit b (omega (arith, before G z i b (λ c d. W .rows .climb z c d (W .under)) r rb′ (omega arith))) (omega (arith, rb′ .high, next-row G z))
               (subst (λ v. T (flagged flags v || flagged flags b)) p f))
               (λ s. D .stay (getD (G .heads) b 0) (K .done u q a b (omega arith) eq ra rb ea xb f));
           made = λ y s.
@@ -179,7 +150,7 @@ module _ {G : Graph} {x : ℕ} (U : Turn G x) {m : ℕ} {met at : List ℕ} (M :
               (λ v.
               let b = v .0 in
               let rb = in-row-i G z b (omega (arith, r .low, v .1)) (v .2) in
-              row-changed z i b zx r rb ex (v .3) (omega (arith, W .rows .climb z i b (W .under) r rb (v .1), v .3)) (v .4));
+              row-changed z i b zx r rb ex (v .3) (omega (arith, W .rows .climb z i b (W .under) r rb (omega (arith, v .1)), v .3)) (v .4));
         }
 
     -- all

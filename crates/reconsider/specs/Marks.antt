@@ -1,5 +1,5 @@
 -- Which edges of the row of x are reconsidered: each is marked at its higher end. Assumes nothing.
-use Prim.Native.Nat.{ℕ, _<_}
+use Prim.Native.Nat.{ℕ, _≤_, _<_}
 use mathlib.Core.Path.{_≡_}
 use mathlib.Core.Logic.{_⊎_}
 use mathlib.Core.Bool.{Bool, not, _||_}
@@ -29,13 +29,12 @@ pub data MarkedAt (y : ℕ) (yes : Bool) (marks marks′ : List ℕ) : Type 0 wh
   set-here : T yes → marks′ ≡ set marks y 1 → MarkedAt y yes marks marks′
   not-here : (T yes → ⊥) → marks′ ≡ marks → MarkedAt y yes marks marks′
 
--- what a row has behind place i and before place j is marked, as far as the edge at place i or its own is flagged
-pub record Marked (G : Graph) (flags : List ℕ) (i j : ℕ) (marks marks′ : List ℕ) : Type 0 where
+-- of the places from a up to b, what stands at those that `yes` says is marked, and nothing else is marked anew
+pub record MarkedOf (heads : List ℕ) (yes : ℕ → Bool) (a b : ℕ) (marks marks′ : List ℕ) : Type 0 where
   pub long : length marks′ ≡ length marks
-  pub hit : (b : ℕ) → i < b → b < j → T (flagged flags i || flagged flags b) → T (says marks′ (getD (G .heads) b 0))
+  pub hit : (k : ℕ) → a ≤ k → k < b → T (yes k) → T (says marks′ (getD heads k 0))
   pub stay : (y : ℕ) → T (says marks y) → T (says marks′ y)
-  pub made : (y : ℕ) → T (says marks′ y)
-      → T (says marks y) ⊎ ((b : ℕ) × (i < b) × (b < j) × (getD (G .heads) b 0 ≡ y) × T (flagged flags i || flagged flags b))
+  pub made : (y : ℕ) → T (says marks′ y) → T (says marks y) ⊎ ((k : ℕ) × (a ≤ k) × (k < b) × (getD heads k 0 ≡ y) × T (yes k))
 
 -- why the edge between x and the higher y is reconsidered: because its road changed, or because of a lower row that has both, with a flagged
 -- edge to one of them

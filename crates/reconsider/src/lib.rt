@@ -1,18 +1,18 @@
 // Which edges are reconsidered: those whose road changed, and those of which a lower triangle has a changed edge. Changed edges are flagged by
 // their places; in the turn of a position the edges of its row that are reconsidered are marked at their higher ends.
 
-ghost use Prim.Native.Nat.{_+_, _*_, _/_, _≤_, _<_};
+ghost use Prim.Native.Nat.{_+_, _*_, _/_, _≤_, _<_, min};
 ghost use mathlib.Core.Path.{_≡_};
-ghost use mathlib.Core.Bool.{_||_};
+ghost use mathlib.Core.Bool.{true, _||_};
 ghost use lib.Dec.{T, eqb};
 ghost use lib.ListN.{length, getD};
 ghost use Rattle.rules.specs.Graph.{graph};
 ghost use Rattle.theory.specs.Rows.{InRow, count};
-ghost use Rattle.turns.specs.Edges.{edgesOf};
+ghost use Rattle.turns.specs.Edges.{edgesOf, Stretch};
 ghost use Rattle.turns.specs.Waiting.{Turn};
 ghost use Rattle.turns.specs.Met.{Met, AllMet};
 ghost use Rattle.reconsider.specs.Flags.{flagged, Flagged};
-ghost use Rattle.reconsider.specs.Marks.{says, Clear, Dirty, MarkedAt, Marked, MarkedRow};
+ghost use Rattle.reconsider.specs.Marks.{says, Clear, Dirty, MarkedAt, MarkedOf, MarkedRow};
 ghost use Rattle.reconsider.specs.Reaches.{Upward, Reaches, Begins, Top};
 use rules::wide;
 use rules::wide16;
@@ -36,21 +36,48 @@ pub fn flag(flags: &mut [u64], k: usize)
     flags[at] = flags[at] | bit;
 }
 
-// Marks y if the edge at place j is flagged, or the row's edge to x, which `near` says.
-fn mark_at(flags: &[u64], marks: &mut [u8; 4096], near: bool, j: usize, y: usize)
-    requires { ⌜ (j / 64 < length (now flags)) × (y < 4096) ⌝ }
-    ensures { λ _. ⌜ MarkedAt y (near || flagged (now (flags .entry)) j) (now (marks .entry)) (now (marks .exit)) ⌝ }
+// Marks what stands at each place from `from` up to `end`.
+fn mark_all(row_heads: &[u32], marks: &mut [u8; 4096], from: usize, end: usize)
+    requires { ⌜ (from ≤ end) × Stretch (now «row_heads») from end × (length (now marks) ≡ 4096) ⌝ }
+    ensures { λ _. ⌜ MarkedOf (now («row_heads» .entry)) (λ k. true) from end (now (marks .entry)) (now (marks .exit)) ⌝ }
 {
-    if near {
-        marks[y] = 1;
-        return;
-    }
-    if is_flagged(flags, j) {
-        marks[y] = 1;
+    let mut j = from;
+    while j < end {
+        marks[wide(row_heads[j])] = 1;
+        j += 1;
     }
 }
 
-// The row of z has x at place i: marks what it has behind x, as far as an edge of the triangle is flagged.
+// Marks what stands at the flagged places from `from` up to `end`, as far as they share a word: from one bit of it to the next that is set.
+fn mark_word(row_heads: &[u32], flags: &[u64], marks: &mut [u8; 4096], from: usize, end: usize)
+    requires { ⌜ (from < end) × (from / 64 < length (now flags)) × Stretch (now «row_heads») from end × (length (now marks) ≡ 4096) ⌝ }
+    ensures { λ _. ⌜ MarkedOf (now («row_heads» .entry)) (flagged (now (flags .entry))) from (min end ((from / 64 + 1) * 64)) (now (marks .entry)) (now (marks .exit)) ⌝ }
+{
+    let mut rest = flags[from / 64] >> (from % 64);
+    while rest != 0 {
+        let j = from + wide(u64::trailing_zeros(rest));
+        if end <= j {
+            return;
+        }
+        marks[wide(row_heads[j])] = 1;
+        rest = rest & (rest - 1);
+    }
+}
+
+// Marks what stands at the flagged places from `from` up to `end`, word by word.
+fn mark_flagged(row_heads: &[u32], flags: &[u64], marks: &mut [u8; 4096], from: usize, end: usize)
+    requires { ⌜ (from ≤ end) × (end ≤ length (now flags) * 64) × Stretch (now «row_heads») from end × (length (now marks) ≡ 4096) ⌝ }
+    ensures { λ _. ⌜ MarkedOf (now («row_heads» .entry)) (flagged (now (flags .entry))) from end (now (marks .entry)) (now (marks .exit)) ⌝ }
+{
+    let mut j = from;
+    while j < end {
+        mark_word(row_heads, flags, marks, j, end);
+        j = (j / 64 + 1) * 64;
+    }
+}
+
+// The row of z has x at place i: marks what it has behind x, as far as an edge of the triangle is flagged. Place i itself is not flagged where
+// the flags are gone through, so they may be from there on.
 fn mark_over(
     first: &[u32],
     row_heads: &[u32],
@@ -60,16 +87,14 @@ fn mark_over(
     i: usize,
 )
     requires { ⌜ Turn (graph (now first) (now «row_heads»)) z × InRow (graph (now first) (now «row_heads»)) z i × (edgesOf (graph (now first) (now «row_heads»)) ≤ length (now flags) * 64) × (length (now marks) ≡ 4096) ⌝ }
-    ensures { λ _. ⌜ Marked (graph (now (first .entry)) (now («row_heads» .entry))) (now (flags .entry)) i (getD (now (first .entry)) (z + 1) 0) (now (marks .entry)) (now (marks .exit)) ⌝ }
+    ensures { λ _. ⌜ MarkedOf (now («row_heads» .entry)) (λ k. flagged (now (flags .entry)) i || flagged (now (flags .entry)) k) (i + 1) (getD (now (first .entry)) (z + 1) 0) (now (marks .entry)) (now (marks .exit)) ⌝ }
 {
     let end = wide(first[z + 1]);
-    let near = is_flagged(flags, i);
-    let mut j = i + 1;
-    while j < end {
-        let y = wide(row_heads[j]);
-        mark_at(flags, marks, near, j, y);
-        j += 1;
+    if is_flagged(flags, i) {
+        mark_all(row_heads, marks, i + 1, end);
+        return;
     }
+    mark_flagged(row_heads, flags, marks, i, end);
 }
 
 // The same, where a row without a flagged edge is passed over: there is nothing to mark.
@@ -83,7 +108,7 @@ fn mark_from(
     i: usize,
 )
     requires { ⌜ Turn (graph (now first) (now «row_heads»)) z × InRow (graph (now first) (now «row_heads»)) z i × (edgesOf (graph (now first) (now «row_heads»)) ≤ length (now flags) * 64) × Dirty (graph (now first) (now «row_heads»)) (now flags) (now dirty) × (length (now marks) ≡ 4096) ⌝ }
-    ensures { λ _. ⌜ Marked (graph (now (first .entry)) (now («row_heads» .entry))) (now (flags .entry)) i (getD (now (first .entry)) (z + 1) 0) (now (marks .entry)) (now (marks .exit)) ⌝ }
+    ensures { λ _. ⌜ MarkedOf (now («row_heads» .entry)) (λ k. flagged (now (flags .entry)) i || flagged (now (flags .entry)) k) (i + 1) (getD (now (first .entry)) (z + 1) 0) (now (marks .entry)) (now (marks .exit)) ⌝ }
 {
     if dirty[z] == 0 {
         return;
@@ -138,7 +163,7 @@ pub fn mark_chain(first: &[u32], row_heads: &[u32], on: &mut [u8; 4096], lo: usi
     }
 }
 
-// Where the row of z begins to wait: before it nothing can be reached, and from there on everything can.
+// Where the row of z begins to wait: nothing before it can be reached.
 pub fn begin_row(first: &[u32], row_heads: &[u32], on: &[u8; 4096], z: usize) -> usize
     requires { ⌜ Turn (graph (now first) (now «row_heads»)) z × Upward (graph (now first) (now «row_heads»)) (now on) ⌝ }
     ensures { λ r. ⌜ Begins (graph (now (first .entry)) (now («row_heads» .entry))) (now (on .entry)) z r ⌝ }

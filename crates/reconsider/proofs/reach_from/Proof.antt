@@ -1,7 +1,7 @@
 -- `reach_from` meets its contract: no entry of a row is above its last. Assumes nothing.
 use borrow.Author.Needs.{needs}
 use native.Mathlib.Omega.{arith}
-use Prim.Native.Nat.{_+_, _<_}
+use Prim.Native.Nat.{_<_}
 use lib.ListN.{getD}
 use Rattle.reconsider.proofs.Said.{says-i}
 use Rattle.reconsider.proofs.Reaches.{top-clean, last-place, top-same, top-last}
