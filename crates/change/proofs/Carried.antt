@@ -141,7 +141,7 @@ module _ {heads costs order at next : List ℕ} {G : Graph} {C₀ : EdgeCosts} {
         }
 
     -- only a row with edges has a changed one
-    pub carrying-full : {r : ℕ} {C′ : EdgeCosts} {flags′ dirty′ : List ℕ} → Stepped heads costs order at next G lo hi x C flags dirty C′ flags′ dirty′ r
+    pub carrying-full : {r : ℕ} {C′ : EdgeCosts} {flags′ dirty′ : List ℕ} → Stepped heads costs order at next G lo hi x C flags dirty C′ flags′ dirty′ seen r
         → T (says dirty′ x) → getD (G .first) x 0 < getD (G .first) (x + 1) 0
     carrying-full Z t = either (Z .dirty-full t) (λ u. absurd (K .clean x (omega arith) u)) (λ h. h)
 
@@ -173,13 +173,13 @@ module _ {heads costs order at next : List ℕ} {G : Graph} {C₀ : EdgeCosts} {
           (carrying-turn, omega (arith, B .from), h)
 
       -- the next turn
-      pub carrying-more : {m r reach′ b i seen′ : ℕ} {C′ : EdgeCosts} {flags′ dirty′ marks′ : List ℕ} {D′ : EdgeCosts} {todo′ links₁ places₁ met′ spots′ links′ places′ : List ℕ}
+      pub carrying-more : {m reach′ b i seen′ : ℕ} {C′ : EdgeCosts} {flags′ dirty′ marks′ : List ℕ} {D′ : EdgeCosts} {todo′ links₁ places₁ met′ spots′ links′ places′ : List ℕ}
           → Waiting G x 0 links₁ places₁ → Gathered G x places m met′ spots′ places₁
-          → Stepped heads costs order at next G lo hi x C flags dirty C′ flags′ dirty′ r → Ready G flags′ dirty′ marks′ D′ todo′
-          → Top G dirty′ x reach reach′ → Begins G on x b → i ≡ waitAt (G .first) x b → links′ ≡ queued G links₁ x i → places′ ≡ set places₁ x i → seen′ ≡ seen + r
+          → Stepped heads costs order at next G lo hi x C flags dirty C′ flags′ dirty′ seen seen′ → Ready G flags′ dirty′ marks′ D′ todo′
+          → Top G dirty′ x reach reach′ → Begins G on x b → i ≡ waitAt (G .first) x b → links′ ≡ queued G links₁ x i → places′ ≡ set places₁ x i
           → Carrying heads costs order at next G lo hi on C₀ words (x + 1) reach′ seen′ C′ flags′ dirty′ marks′ D′ todo′ links′ places′ met′ spots′
       unfolding total
-      carrying-more {b = b} {dirty′ = dirty′} {places₁ = places₁} {places′ = places′} W M Z E P B ei el ep es =
+      carrying-more {b = b} {dirty′ = dirty′} {places₁ = places₁} {places′ = places′} W M Z E P B ei el ep =
           let U = carrying-turn in
           let s = stored places₁ places′ x _ ep (omega (arith, W .places-long, U .under, U .few)) in
           record {

@@ -13,8 +13,8 @@ use Rattle.rules.specs.Graph.{Graph}
 use Rattle.rules.specs.Hierarchy.{EdgeCosts, edgeCosts, along}
 use Rattle.theory.specs.Rows.{InRow, count}
 use Rattle.theory.proofs.Words.{either, same-or-not}
-use Rattle.theory.proofs.Rows.{once, next-row}
-use Rattle.theory.proofs.EdgesFew.{row-few}
+use Rattle.theory.proofs.Rows.{once, next-row, in-heads}
+use Rattle.theory.proofs.EdgesFew.{row-few, edges-few}
 use Rattle.lists.specs.Lent.{chosen}
 use Rattle.turns.specs.Waiting.{Turn}
 use Rattle.turns.proofs.Stored.{stored}
@@ -32,16 +32,15 @@ pub record Listing (G : Graph) (marks : List ℕ) (x k : ℕ) (todo : List ℕ) 
   pub long : length todo ≡ 4096
   pub few : c ≤ 4096
   pub room : getD (G .first) x 0 + c ≤ k
-  pub row : (t : ℕ) → t < c → InRow G x (getD (G .first) x 0 + getD todo t 0)
-  pub past : (t : ℕ) → t < c → getD (G .first) x 0 + getD todo t 0 < k
-  pub marked : (t : ℕ) → t < c → T (says marks (getD (G .heads) (getD (G .first) x 0 + getD todo t 0) 0))
+  pub row : (t : ℕ) → t < c → InRow G x (getD todo t 0)
+  pub past : (t : ℕ) → t < c → getD todo t 0 < k
+  pub marked : (t : ℕ) → t < c → T (says marks (getD (G .heads) (getD todo t 0) 0))
   pub once : (s t : ℕ) → s < t → t < c → getD todo s 0 < getD todo t 0
-  pub all : (q : ℕ) → InRow G x q → q < k → T (says marks (getD (G .heads) q 0)) → (t : ℕ) × (t < c) × (getD (G .first) x 0 + getD todo t 0 ≡ q)
+  pub all : (q : ℕ) → InRow G x q → q < k → T (says marks (getD (G .heads) q 0)) → (t : ℕ) × (t < c) × (getD todo t 0 ≡ q)
 
--- a row has less than 4,096 places
-pub walk-few : {G : Graph} {x end k : ℕ} → Turn G x → Walk G x end k → k < end → k < getD (G .first) x 0 + 4096
-walk-few {G} {x} U W l =
-    omega (arith, row-few (U .rows) x (count (G .first) - suc x) (omega (arith, U .under)), U .few, next-row G x, W .end-is)
+-- there are few places
+pub walk-few : {G : Graph} {x end k : ℕ} → Turn G x → Walk G x end k → k < end → k < 8388608
+walk-few {x = x} {k = k} U W l = omega (arith, in-heads (U .rows) x k (U .under) (walk-in W l), edges-few (U .rows) (U .few))
 
 module _ {G : Graph} {marks : List ℕ} {x : ℕ} where
   -- none yet
@@ -75,18 +74,19 @@ module _ {G : Graph} {marks : List ℕ} {x : ℕ} where
 
     -- there is a place for one more
     pub listing-room : {end : ℕ} → Turn G x → Walk G x end k → k < end → c < 4096
-    listing-room U W l = omega (arith, L .room, walk-few U W l)
+    listing-room U W l =
+        omega (arith, L .room, row-few (U .rows) x (count (G .first) - suc x) (omega (arith, U .under)), U .few, next-row G x, W .end-is)
 
     -- a marked one is listed
     listing-more : {end : ℕ} {todo′ : List ℕ} → Turn G x → Walk G x end k → k < end → T (says marks (getD (G .heads) k 0))
-        → todo′ ≡ set todo c (k - getD (G .first) x 0) → Listing G marks x (k + 1) todo′ (c + 1)
+        → todo′ ≡ set todo c k → Listing G marks x (k + 1) todo′ (c + 1)
     listing-more {end} {todo′} U W l m e =
         let room = listing-room U W l in
-        let s = stored todo todo′ c (k - getD (G .first) x 0) e (omega (arith, L .long)) in
-        let last : getD (G .first) x 0 + getD todo′ c 0 ≡ k = omega (arith, s .here, W .from) in
-        let which : (t : ℕ) → t < c + 1 → (getD (G .first) x 0 + getD todo′ t 0 ≡ k) ⊎ ((t < c) × (getD todo′ t 0 ≡ getD todo t 0)) =
+        let s = stored todo todo′ c k e (omega (arith, L .long)) in
+        let last = s .here in
+        let which : (t : ℕ) → t < c + 1 → (getD todo′ t 0 ≡ k) ⊎ ((t < c) × (getD todo′ t 0 ≡ getD todo t 0)) =
         λ t h. either (same-or-not t c)
-        (λ d. inl (ap (λ v. getD (G .first) x 0 + getD todo′ v 0) d ∙ last))
+        (λ d. inl (ap (λ v. getD todo′ v 0) d ∙ last))
         (λ d. inr (omega arith, s .off t d)) in
         record {
           long = s .long ∙ L .long;
@@ -105,7 +105,7 @@ module _ {G : Graph} {marks : List ℕ} {x : ℕ} where
               (λ d. (c, omega arith, last ∙ sym d))
               (λ d.
               let (t, f, g) = L .all q r (omega arith) n in
-              (t, omega arith, ap (λ v. getD (G .first) x 0 + v) (s .off t (λ d. omega arith)) ∙ g));
+              (t, omega arith, s .off t (λ d. omega arith) ∙ g));
         }
 
 -- ---- the roads
@@ -147,17 +147,17 @@ module _ {heads costs order at next : List ℕ} {G : Graph} {marks : List ℕ} {
         }
 
     -- a marked one: its roads stand at y
-    pub laying-more : {D′ : EdgeCosts} {u w from : ℕ} {todo′ : List ℕ} → Turn G x → k < end → getD marks y 0 ≢ 0
+    pub laying-more : {D′ : EdgeCosts} {u w : ℕ} {todo′ : List ℕ} → Turn G x → k < end → getD marks y 0 ≢ 0
         → D′ ≡ edgeCosts (set (D .up) y u) (set (D .down) y w)
         → ((tails : List ℕ) → ByTail tails heads at next → u ≡ roadBetween (net tails heads costs order) x y)
         → ((tails : List ℕ) → ByTail tails heads at next → w ≡ roadBetween (net tails heads costs order) y x)
-        → from ≡ getD (G .first) x 0 → todo′ ≡ set todo c (k - from) → Laying heads costs order at next G marks x end (k + 1) D′ todo′ (c + 1)
-    laying-more {D′} {u} {w} U l m e ru rd ef et =
+        → todo′ ≡ set todo c k → Laying heads costs order at next G marks x end (k + 1) D′ todo′ (c + 1)
+    laying-more {D′} {u} {w} U l m e ru rd et =
         let seat = walk-reads U (L .walk) l .1 in
         let s = both-stored D D′ y (way u w) e (omega (arith, L .seats .up-long)) (omega (arith, L .seats .down-long)) in
         record {
           walk = walk-more (L .walk);
-          listing = listing-more (L .listing) U (L .walk) l (subst (λ v. T (says marks v)) ey (says-i marks y m)) (et ∙ ap (λ v. set todo c (k - v)) ef);
+          listing = listing-more (L .listing) U (L .walk) l (subst (λ v. T (says marks v)) ey (says-i marks y m)) et;
           seats = record { up-long = s Up .long ∙ L .seats .up-long; down-long = s Down .long ∙ L .seats .down-long };
           there = λ tails B d q r h t.
               either (same-or-not q k)

@@ -59,7 +59,7 @@ module _ (C D : EdgeCosts) (k y : ℕ) {r : Bool}
 pub record Done (G : Graph) (x : ℕ) (todo : List ℕ) (t q : ℕ) : Type 0 where
   pub at : ℕ
   pub soon : at < t
-  pub there : getD (G .first) x 0 + getD todo at 0 ≡ q
+  pub there : getD todo at 0 ≡ q
 
 module _ {G : Graph} {x : ℕ} {todo : List ℕ} where
   -- there is none before the first
@@ -70,12 +70,12 @@ module _ {G : Graph} {x : ℕ} {todo : List ℕ} where
   done-more : {t q : ℕ} → Done G x todo t q → Done G x todo (t + 1) q
   done-more a = record { at = a .at; soon = omega (arith, a .soon); there = a .there }
 
-  module _ {t k : ℕ} (ek : k ≡ getD (G .first) x 0 + getD todo t 0) where
+  module _ {t k : ℕ} (ek : k ≡ getD todo t 0) where
     -- one of the first t + 1 that is not the last of them is one of the first t
     done-back : {q : ℕ} → Done G x todo (t + 1) q → q ≢ k → Done G x todo t q
     done-back a n =
         either (same-or-not (a .at) t)
-        (λ d. absurd (n (sym (a .there) ∙ ap (λ v. getD (G .first) x 0 + getD todo v 0) d ∙ sym ek)))
+        (λ d. absurd (n (sym (a .there) ∙ ap (λ v. getD todo v 0) d ∙ sym ek)))
         (λ d. record { at = a .at; soon = omega (arith, a .soon); there = a .there })
 
     -- which the last is not
@@ -92,7 +92,7 @@ pub record Clearing (G : Graph) (x : ℕ) (todo : List ℕ) (t : ℕ) (marks₀ 
 
 -- one more whose mark is taken away
 clearing-more : {G : Graph} {x : ℕ} {todo : List ℕ} {t k y : ℕ} {marks₀ marks marks′ : List ℕ} → Clearing G x todo t marks₀ marks
-    → k ≡ getD (G .first) x 0 + getD todo t 0 → y ≡ getD (G .heads) k 0 → y < length marks₀ → marks′ ≡ set marks y 0 → Clearing G x todo (t + 1) marks₀ marks′
+    → k ≡ getD todo t 0 → y ≡ getD (G .heads) k 0 → y < length marks₀ → marks′ ≡ set marks y 0 → Clearing G x todo (t + 1) marks₀ marks′
 clearing-more {G} {k = k} {y = y} {marks = marks} {marks′ = marks′} K ek ey b em =
     let s = stored marks marks′ y 0 em (omega (arith, K .long)) in
     let fewer : (q : ℕ) → T (says marks′ q) → T (says marks q) =
@@ -144,7 +144,7 @@ module _ {G : Graph} {marks₀ : List ℕ} {x : ℕ} {todo : List ℕ} {c : ℕ}
       }
 
   module _ {C₀ : EdgeCosts} (M : Lists G C₀) (under : x < count (G .first)) (L : Listed G marks₀ x todo c) {t k : ℕ} (l : t < c)
-      (ek : k ≡ getD (G .first) x 0 + getD todo t 0) where
+      (ek : k ≡ getD todo t 0) where
     -- the next one is an edge of the row
     settling-in : InRow G x k
     settling-in = rw ek (L .row t l)

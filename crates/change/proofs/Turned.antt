@@ -147,8 +147,8 @@ module _ {G : Graph} {before after : ℕ → ℕ → ℕ} {C₀ C : EdgeCosts} {
         }
 
     -- a turn in which no edge is reconsidered
-    pub turn-idle : ((k : ℕ) → InRow G x k → Reason x (getD (G .heads) k 0) → ⊥)
-        → Standing G before after C₀ (x + 1) C flags × (0 ≡ trianglesFrom J (again G before after C₀) n x)
+    pub turn-idle : {s : ℕ} → ((k : ℕ) → InRow G x k → Reason x (getD (G .heads) k 0) → ⊥)
+        → Standing G before after C₀ (x + 1) C flags × (s ≡ s + trianglesFrom J (again G before after C₀) n x)
     turn-idle none = (
       standing-on (kept-none G C) (λ p k e m q. (λ d. refl, refl))
           (λ k q. (
@@ -158,7 +158,7 @@ module _ {G : Graph} {before after : ℕ → ℕ → ℕ} {C₀ C : EdgeCosts} {
               λ t. let (d, f) = differ-way old new x (getD (G .heads) k 0) t in absurd (f (sym (calm x (getD (G .heads) k 0) (none k q) d))),
             ),
           )),
-      sym (uncounted x none),
+      omega (arith, uncounted x none),
     )
 
     module _ {own : ℕ → Bool} {marks : List ℕ} (owns : (y : ℕ) → x < y → Same (own y) (differs before after x y)) (M : MarkedRow G flags own x marks) where
@@ -195,9 +195,9 @@ module _ {G : Graph} {before after : ℕ → ℕ → ℕ} {C₀ C : EdgeCosts} {
       pub why-marked : (y : ℕ) → x < y → Reason x y → T (says marks y)
       why-marked y h w = M .marked y (why-cause y h w)
 
-      module _ {D D′ : EdgeCosts} {r : ℕ} (shut : (a b : ℕ) → after a b ≤ closed)
+      module _ {D D′ : EdgeCosts} {s r : ℕ} (shut : (a b : ℕ) → after a b ≤ closed)
           (roads : (d : Direction) (k : ℕ) → InRow G x k → T (says marks (getD (G .heads) k 0)) → getD (chosen d D) (getD (G .heads) k 0) 0 ≡ along d after x (getD (G .heads) k 0))
-          (K : LookedRow G C marks x D D′ r) {C′ : EdgeCosts} {flags′ : List ℕ} (N : Settled G marks D′ x C flags C′ flags′) where
+          (K : LookedRow G C marks x D D′ s r) {C′ : EdgeCosts} {flags′ : List ℕ} (N : Settled G marks D′ x C flags C′ flags′) where
         -- a marked edge gets its new costs
         got : (d : Direction) (k : ℕ) → InRow G x k → T (says marks (getD (G .heads) k 0))
             → getD (chosen d D′) (getD (G .heads) k 0) 0 ≡ along d new x (getD (G .heads) k 0)
@@ -232,12 +232,14 @@ module _ {G : Graph} {before after : ℕ → ℕ → ℕ} {C₀ C : EdgeCosts} {
 
         -- a turn in which edges are reconsidered
         pub turn-more : Kept G C C′
-            → Standing G before after C₀ (x + 1) C′ flags′ × (r ≡ trianglesFrom J (again G before after C₀) n x)
+            → Standing G before after C₀ (x + 1) C′ flags′ × (r ≡ s + trianglesFrom J (again G before after C₀) n x)
         turn-more T₀ = (
           standing-on T₀ (λ p k e m q. N .others k (λ s v. e (row-of R p x k m l q s))) own-edge,
-          K .number ∙ turn-count R x marks (L .few)
+          K .number
+              ∙ ap (λ v. s + v)
+              (turn-count R x marks (L .few)
               ∙ from-same J (λ a b. says marks b) (again G before after C₀) n x
-              (λ y h j. (λ t. because J before after old new x y (marked-why y h t), λ t. why-marked y h (why J before after old new x y t))),
+              (λ y h j. (λ t. because J before after old new x y (marked-why y h t), λ t. why-marked y h (why J before after old new x y t)))),
         )
 
 -- ---- whatever the roads were before
@@ -257,11 +259,11 @@ module _ {heads costs order at next : List ℕ} {G : Graph} {C : EdgeCosts} {wor
   After tails = roadBetween (net tails heads costs order)
 
   -- a turn that changes nothing: no edge of the row of x is reconsidered
-  stepped-calm : {flags dirty : List ℕ}
+  stepped-calm : {flags dirty : List ℕ} {s : ℕ}
       → ((tails : List ℕ) (before : ℕ → ℕ → ℕ) (C₀ : EdgeCosts) → Ways (net tails heads costs order) at next lo hi before
       → Standing G before (After tails) C₀ x C flags → (k : ℕ) → InRow G x k
       → Why (linked G) before (After tails) (held G C₀) (newOf G before (After tails) C₀) x (getD (G .heads) k 0) → ⊥)
-      → Stepped heads costs order at next G lo hi x C flags dirty C flags dirty 0
+      → Stepped heads costs order at next G lo hi x C flags dirty C flags dirty s s
   stepped-calm none =
       record {
         kept = kept-none G C;
@@ -273,8 +275,8 @@ module _ {heads costs order at next : List ℕ} {G : Graph} {C : EdgeCosts} {wor
       }
 
   -- the turn of a position that the change cannot reach
-  pub stepped-off : {on flags dirty marks : List ℕ} {D : EdgeCosts} {todo : List ℕ} → Reaches G lo on → getD on x 0 ≡ 0 → Ready G flags dirty marks D todo
-      → Stepped heads costs order at next G lo hi x C flags dirty C flags dirty 0 × Ready G flags dirty marks D todo
+  pub stepped-off : {on flags dirty marks : List ℕ} {D : EdgeCosts} {todo : List ℕ} {s : ℕ} → Reaches G lo on → getD on x 0 ≡ 0 → Ready G flags dirty marks D todo
+      → Stepped heads costs order at next G lo hi x C flags dirty C flags dirty s s × Ready G flags dirty marks D todo
   stepped-off {on} H e E = (
     stepped-calm
         (λ tails before C₀ w S k q r.
@@ -332,7 +334,7 @@ module _ {heads costs order at next : List ℕ} {G : Graph} {C : EdgeCosts} {wor
 
     module _ {D₁ : EdgeCosts} {todo′ : List ℕ} {c : ℕ} (W : LaidRow heads costs order at next G marks₂ x D₁ todo′ c) where
       -- the turn of a position whose row has no reconsidered edge
-      pub stepped-idle : c ≡ 0 → Stepped heads costs order at next G lo hi x C flags dirty C flags dirty 0 × Ready G flags dirty marks₂ D₁ todo′
+      pub stepped-idle : {s : ℕ} → c ≡ 0 → Stepped heads costs order at next G lo hi x C flags dirty C flags dirty s s × Ready G flags dirty marks₂ D₁ todo′
       stepped-idle e = (
         stepped-calm
             (λ tails before C₀ w S k q r.
@@ -353,9 +355,9 @@ module _ {heads costs order at next : List ℕ} {G : Graph} {C : EdgeCosts} {wor
           none e k q t = let (i, h, f) = W .listed .all k q t in omega arith
 
       -- any other turn
-      pub stepped-more : {D₂ C′ : EdgeCosts} {flags′ dirty′ marks₃ : List ℕ} {r : ℕ} → LookedRow G C marks₂ x D₁ D₂ r
+      pub stepped-more : {D₂ C′ : EdgeCosts} {flags′ dirty′ marks₃ : List ℕ} {s r : ℕ} → LookedRow G C marks₂ x D₁ D₂ s r
           → Settled G marks₂ D₂ x C flags C′ flags′ → Cleared G x marks₂ marks₃ → Noted G x flags flags′ dirty dirty′
-          → Stepped heads costs order at next G lo hi x C flags dirty C′ flags′ dirty′ r × Ready G flags′ dirty′ marks₃ D₂ todo′
+          → Stepped heads costs order at next G lo hi x C flags dirty C′ flags′ dirty′ s r × Ready G flags′ dirty′ marks₃ D₂ todo′
       stepped-more {dirty′ = dirty′} {marks₃} K N F O =
           let R = A .lists .rows in
           let on : Kept G C _ = record {

@@ -49,14 +49,14 @@ pub record Standing (G : Graph) (before after : ℕ → ℕ → ℕ) (C₀ : Edg
 
 -- ---- roads of the marked edges
 
--- the first c of a list are the marked edges of the row of x, each once, by how far they are from the row's start
+-- the first c of a list are the marked edges of the row of x, each once, by their places
 pub record Listed (G : Graph) (marks : List ℕ) (x : ℕ) (todo : List ℕ) (c : ℕ) : Type 0 where
   pub long : length todo ≡ 4096
   pub few : c ≤ 4096
-  pub row : (t : ℕ) → t < c → InRow G x (getD (G .first) x 0 + getD todo t 0)
-  pub marked : (t : ℕ) → t < c → T (says marks (getD (G .heads) (getD (G .first) x 0 + getD todo t 0) 0))
+  pub row : (t : ℕ) → t < c → InRow G x (getD todo t 0)
+  pub marked : (t : ℕ) → t < c → T (says marks (getD (G .heads) (getD todo t 0) 0))
   pub once : (s t : ℕ) → s < t → t < c → getD todo s 0 < getD todo t 0
-  pub all : (k : ℕ) → InRow G x k → T (says marks (getD (G .heads) k 0)) → (t : ℕ) × (t < c) × (getD (G .first) x 0 + getD todo t 0 ≡ k)
+  pub all : (k : ℕ) → InRow G x k → T (says marks (getD (G .heads) k 0)) → (t : ℕ) × (t < c) × (getD todo t 0 ≡ k)
 
 -- and their roads stand at their higher ends
 pub record LaidRow (heads costs order at next : List ℕ) (G : Graph) (marks : List ℕ) (x : ℕ) (D : EdgeCosts) (todo : List ℕ) (c : ℕ) : Type 0 where
@@ -128,15 +128,15 @@ pub record Ready (G : Graph) (flags dirty marks : List ℕ) (D : EdgeCosts) (tod
   pub seats : Seats D
   pub todo-long : length todo ≡ 4096
 
--- the turn of x, whatever the roads were before: it leads from what stands before it to what stands after it, and r of the lower triangles that
--- are to be looked at are those of the row of x
-pub record Stepped (heads costs order at next : List ℕ) (G : Graph) (lo hi x : ℕ) (C : EdgeCosts) (flags dirty : List ℕ) (C′ : EdgeCosts) (flags′ dirty′ : List ℕ) (r : ℕ) : Type 0 where
+-- the turn of x, whatever the roads were before: it leads from what stands before it to what stands after it, and the lower
+-- triangles of the row of x that are to be looked at make r, with the s before
+pub record Stepped (heads costs order at next : List ℕ) (G : Graph) (lo hi x : ℕ) (C : EdgeCosts) (flags dirty : List ℕ) (C′ : EdgeCosts) (flags′ dirty′ : List ℕ) (s r : ℕ) : Type 0 where
   pub kept : Kept G C C′
   pub words : length flags′ ≡ length flags
-  pub few : r ≤ 16777216
+  pub few : r ≤ s + 16777216
   pub dirty-off : (z : ℕ) → z ≢ x → getD dirty′ z 0 ≡ getD dirty z 0
   pub dirty-full : T (says dirty′ x) → T (says dirty x) ⊎ (getD (G .first) x 0 < getD (G .first) (x + 1) 0)
   pub turned : (tails : List ℕ) (before : ℕ → ℕ → ℕ) (C₀ : EdgeCosts) → Ways (net tails heads costs order) at next lo hi before
       → Standing G before (roadBetween (net tails heads costs order)) C₀ x C flags
       → Standing G before (roadBetween (net tails heads costs order)) C₀ (x + 1) C′ flags′
-      × (r ≡ trianglesFrom (linked G) (again G before (roadBetween (net tails heads costs order)) C₀) (count (G .first)) x)
+      × (r ≡ s + trianglesFrom (linked G) (again G before (roadBetween (net tails heads costs order)) C₀) (count (G .first)) x)

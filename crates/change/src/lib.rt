@@ -1,6 +1,6 @@
 // A change of one arc's cost, carried up the shortcut graph: only rows from which the arc's lower end can be felt are looked at.
 
-ghost use Prim.Native.Nat.{_*_, _≤_, _<_, min, max};
+ghost use Prim.Native.Nat.{_+_, _*_, _≤_, _<_, min, max};
 ghost use mathlib.Core.Path.{_≡_};
 ghost use mathlib.Core.Bool.{not, _||_};
 ghost use lib.Dec.{T, eqb};
@@ -34,7 +34,6 @@ use rules::Cost;
 use rules::Junction;
 use rules::Position;
 use rules::wide;
-use rules::wide16;
 use turns::gather_row;
 use turns::queue_row;
 use turns::wait_at;
@@ -51,24 +50,23 @@ fn lay_row(
     marks: &[u8; 4096],
     ups: &mut [u32; 4096],
     downs: &mut [u32; 4096],
-    todo: &mut [u16; 4096],
+    todo: &mut [u32; 4096],
     x: usize,
 ) -> usize
     requires { ⌜ Turn (graph (now first) (now «row_heads»)) x × (length (now order) ≡ count (now first)) × Roads (now heads) (now costs) (now order) (now «arc_at») (now «arc_next») × Seats (edgeCosts (now ups) (now downs)) × (length (now todo) ≡ 4096) ⌝ }
     ensures { λ r. ⌜ LaidRow (now (heads .entry)) (now (costs .entry)) (now (order .entry)) (now («arc_at» .entry)) (now («arc_next» .entry)) (graph (now (first .entry)) (now («row_heads» .entry))) (now (marks .entry)) x (edgeCosts (now (ups .exit)) (now (downs .exit))) (now (todo .exit)) r ⌝ }
 {
-    let from = wide(first[x]);
     let end = wide(first[x + 1]);
     let low = Position(x as u32);
     let mut c = 0;
-    let mut k = from;
+    let mut k = wide(first[x]);
     while k < end {
         let y = wide(row_heads[k]);
         if marks[y] != 0 {
             let high = Position(y as u32);
             ups[y] = road_cost(heads, costs, order, arc_at, arc_next, low, high).0;
             downs[y] = road_cost(heads, costs, order, arc_at, arc_next, high, low).0;
-            todo[c] = (k - from) as u16;
+            todo[c] = k as u32;
             c += 1;
         }
         k += 1;
@@ -124,7 +122,7 @@ fn settle_row(
     marks: &mut [u8; 4096],
     ups: &[u32; 4096],
     downs: &[u32; 4096],
-    todo: &[u16; 4096],
+    todo: &[u32; 4096],
     c: usize,
     x: usize,
 )
@@ -133,17 +131,17 @@ fn settle_row(
     ensures cleared { λ _. ⌜ Cleared (graph (now (first .entry)) (now («row_heads» .entry))) x (now (marks .entry)) (now (marks .exit)) ⌝ }
     ensures noted { λ _. ⌜ Noted (graph (now (first .entry)) (now («row_heads» .entry))) x (now (flags .entry)) (now (flags .exit)) (now (dirty .entry)) (now (dirty .exit)) ⌝ }
 {
-    let from = wide(first[x]);
     let mut t = 0;
     while t < c {
-        let k = from + wide16(todo[t]);
+        let k = wide(todo[t]);
         let y = wide(row_heads[k]);
         settle_edge(up, down, flags, dirty, marks, ups, downs, x, k, y);
         t += 1;
     }
 }
 
-// The turn of x, in which m lower rows were met: its reconsidered edges are marked, looked at and settled. How many lower triangles they have is told.
+// The turn of x, in which m lower rows were met: its reconsidered edges are marked, looked at and settled. How many lower triangles they have,
+// and `so_far`, is told.
 fn turn(
     heads: &[u32],
     costs: &[u32],
@@ -163,17 +161,18 @@ fn turn(
     marks: &mut [u8; 4096],
     ups: &mut [u32; 4096],
     downs: &mut [u32; 4096],
-    todo: &mut [u16; 4096],
+    todo: &mut [u32; 4096],
     x: usize,
     lo: usize,
     hi: usize,
+    so_far: u64,
 ) -> u64
-    requires { ⌜ Carriage (now heads) (now costs) (now order) (now «arc_at») (now «arc_next») (graph (now first) (now «row_heads»)) (edgeCosts (now up) (now down)) (length (now flags)) lo hi × (x < count (now first)) × Reaches (graph (now first) (now «row_heads»)) lo (now on) × Met (graph (now first) (now «row_heads»)) x m (now met) (now at) × (T (says (now on) x) → AllMet (graph (now first) (now «row_heads»)) x m (now met)) × Ready (graph (now first) (now «row_heads»)) (now flags) (now dirty) (now marks) (edgeCosts (now ups) (now downs)) (now todo) ⌝ }
-    ensures stepped { λ r. ⌜ Stepped (now (heads .entry)) (now (costs .entry)) (now (order .entry)) (now («arc_at» .entry)) (now («arc_next» .entry)) (graph (now (first .entry)) (now («row_heads» .entry))) lo hi x (edgeCosts (now (up .entry)) (now (down .entry))) (now (flags .entry)) (now (dirty .entry)) (edgeCosts (now (up .exit)) (now (down .exit))) (now (flags .exit)) (now (dirty .exit)) r ⌝ }
+    requires { ⌜ Carriage (now heads) (now costs) (now order) (now «arc_at») (now «arc_next») (graph (now first) (now «row_heads»)) (edgeCosts (now up) (now down)) (length (now flags)) lo hi × (x < count (now first)) × Reaches (graph (now first) (now «row_heads»)) lo (now on) × Met (graph (now first) (now «row_heads»)) x m (now met) (now at) × (T (says (now on) x) → AllMet (graph (now first) (now «row_heads»)) x m (now met)) × Ready (graph (now first) (now «row_heads»)) (now flags) (now dirty) (now marks) (edgeCosts (now ups) (now downs)) (now todo) × («so_far» + 16777216 < 18446744073709551616) ⌝ }
+    ensures stepped { λ r. ⌜ Stepped (now (heads .entry)) (now (costs .entry)) (now (order .entry)) (now («arc_at» .entry)) (now («arc_next» .entry)) (graph (now (first .entry)) (now («row_heads» .entry))) lo hi x (edgeCosts (now (up .entry)) (now (down .entry))) (now (flags .entry)) (now (dirty .entry)) (edgeCosts (now (up .exit)) (now (down .exit))) (now (flags .exit)) (now (dirty .exit)) «so_far» r ⌝ }
     ensures ready { λ _. ⌜ Ready (graph (now (first .entry)) (now («row_heads» .entry))) (now (flags .exit)) (now (dirty .exit)) (now (marks .exit)) (edgeCosts (now (ups .exit)) (now (downs .exit))) (now (todo .exit)) ⌝ }
 {
     if on[x] == 0 {
-        return 0;
+        return so_far;
     }
     mark_own(marks, x, lo, hi);
     mark_row(first, row_heads, flags, dirty, met, at, m, marks, x);
@@ -192,9 +191,22 @@ fn turn(
         x,
     );
     if c == 0 {
-        return 0;
+        return so_far;
     }
-    let seen = look_row(first, row_heads, up, down, met, at, m, marks, ups, downs, x);
+    let seen = look_row(
+        first,
+        row_heads,
+        up,
+        down,
+        met,
+        at,
+        m,
+        marks,
+        ups,
+        downs,
+        x,
+        so_far,
+    );
     settle_row(
         first,
         row_heads,
@@ -240,7 +252,7 @@ fn carry(
     let mut marks = [0u8; 4096];
     let mut ups = [0u32; 4096];
     let mut downs = [0u32; 4096];
-    let mut todo = [0u16; 4096];
+    let mut todo = [0u32; 4096];
     mark_chain(first, row_heads, &mut on, lo);
     let mut reach = lo;
     let mut seen = 0;
@@ -255,7 +267,7 @@ fn carry(
             &mut at,
             x,
         );
-        seen += turn(
+        seen = turn(
             heads,
             costs,
             order,
@@ -278,6 +290,7 @@ fn carry(
             x,
             lo,
             hi,
+            seen,
         );
         reach = reach_from(first, row_heads, &dirty, reach, x);
         let i = wait_at(first, x, begin_row(first, row_heads, &on, x));

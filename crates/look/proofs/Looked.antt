@@ -1,196 +1,221 @@
--- The lower triangles over one row, one after the other. Assumes nothing.
-use Prim.Native.Nat.{ℕ, _+_, _≤_, _<_, min}
+-- The lower triangles over one row, one stretch of places after the other. Assumes nothing.
+use Prim.Native.Nat.{ℕ, zero, suc, _+_, _-_, _≤_, _<_, min}
 use mathlib.Core.Path.{_≡_, refl, sym, ap, _∙_, subst}
-use mathlib.Core.Logic.{_≢_}
-use mathlib.Core.Bool.{Bool, _&&_}
+use mathlib.Core.Logic.{_⊎_, inl, inr}
+use mathlib.Core.Bool.{Bool, true, false, cond, _&&_, _||_}
 use mathlib.Core.List.{List}
 use native.Mathlib.Omega.{arith}
-use lib.Dec.{T, eqb, ltb}
+use lib.Dec.{T, eqb, ltb, leb}
 use lib.ListN.{length, getD}
+use borrow.Author.Tests.{ltb-true, ltb-false}
 use Rattle.rules.specs.declared.Direction.{Direction}
 use Rattle.rules.specs.declared.Direction.the-variants.{Up, Down}
-use Rattle.rules.specs.Words.{howMany}
+use Rattle.rules.specs.Words.{total, howMany}
 use Rattle.rules.specs.Graph.{Graph}
-use Rattle.rules.specs.Hierarchy.{EdgeCosts, along}
+use Rattle.rules.specs.Hierarchy.{EdgeCosts}
 use Rattle.theory.specs.Rows.{InRow, Lists, count}
-use Rattle.theory.proofs.Words.{either, same-or-not, and-i, and-l, and-r, some-i, some-e, eqb-e, eqb-i, ltb-e, ltb-i}
+use Rattle.theory.proofs.Words.{either, split, and-i, and-l, and-r, or-l, or-r, or-e, some-i, some-e, eqb-e, eqb-i, leb-e, leb-i}
 use Rattle.theory.proofs.Rows.{in-heads, in-row-i, next-row}
+use Rattle.theory.proofs.Totals.{many-same, many-more, many-none, many-le}
 use Rattle.lists.specs.Lent.{chosen}
-use Rattle.turns.specs.Edges.{across, atMost}
+use Rattle.turns.specs.Edges.{Stretch, atMost}
 use Rattle.turns.proofs.Stored.{Stored, stored}
+use Rattle.turns.proofs.Stretches.{stretch-row, stretch-part}
 use Rattle.reconsider.specs.Marks.{says}
-use Rattle.look.specs.Looking.{Seats, taken, among, Looked}
-use Rattle.theory.proofs.Totals.{Same, many-same, many-more, many-none, many-le}
+use Rattle.look.specs.Looking.{Seats, Costed, wayTo, taken, among, Looked}
+
+-- ---- how many
+
+-- of two tests that do not both hold, either counts as much as the two
+one-or : (a b : Bool) → (T a → T b → ⊥) → cond (a || b) 1 0 ≡ cond a 1 0 + cond b 1 0
+one-or true true h = absurd (h tt tt)
+one-or true false h = refl
+one-or false b h = omega arith
+
+-- where none passes both of two tests, those that pass either are those of the one and those of the other
+many-or : (p q : ℕ → Bool) (n : ℕ) → ((i : ℕ) → T (p i) → T (q i) → ⊥) → howMany (λ i. p i || q i) n ≡ howMany p n + howMany q n
+unfolding howMany total
+many-or p q zero h = refl
+many-or p q (suc n) h = omega (arith, many-or p q n h, one-or (p n) (q n) (h n))
+
+-- not all pass where one does not
+many-less : (p : ℕ → Bool) (n y : ℕ) → y < n → (T (p y) → ⊥) → howMany p n < n
+many-less p n y l h =
+    omega (
+      arith,
+      many-le (λ w. p w || eqb w y) n,
+      many-more p (λ w. p w || eqb w y) n y l h (or-r (p y) (eqb y y) (eqb-i y y refl))
+          (λ w d. (or-l (p w) (eqb w y), λ t. either (or-e (p w) (eqb w y) t) (λ u. u) (λ u. absurd (d (eqb-e w y u))))),
+    )
+
+-- ---- what stands at the places from a up to b
+
+-- what has a place there is among them, and what is among them has one
+pub among-i : (heads : List ℕ) (a b k y : ℕ) → a ≤ k → k < b → getD heads k 0 ≡ y → T (among heads a b y)
+unfolding among
+among-i heads a b k y h l e =
+    some-i (λ k. leb a k && eqb (getD heads k 0) y) b k l (and-i (leb a k) (eqb (getD heads k 0) y) (leb-i a k h) (eqb-i (getD heads k 0) y e))
+
+pub among-e : (heads : List ℕ) (a b y : ℕ) → T (among heads a b y) → (k : ℕ) × (a ≤ k) × (k < b) × (getD heads k 0 ≡ y)
+unfolding among
+among-e heads a b y t =
+    let (k, l, u) = some-e (λ k. leb a k && eqb (getD heads k 0) y) b t in
+    (k, leb-e a k (and-l (leb a k) (eqb (getD heads k 0) y) u), l, eqb-e (getD heads k 0) y (and-r (leb a k) (eqb (getD heads k 0) y) u))
+
+-- y is counted
+abbrev counted : (heads marks : List ℕ) (a b y : ℕ) → Bool
+counted heads marks a b y = among heads a b y && says marks y
+
+-- ---- two stretches, one behind the other
+
+module _ {heads : List ℕ} {a b c : ℕ} (S : Stretch heads a c) (ab : a ≤ b) (bc : b ≤ c) where
+  -- what stands in the one does not stand in the other
+  apart : (y : ℕ) → T (among heads a b y) → T (among heads b c y) → ⊥
+  apart y t u =
+      let (k, h, l, e) = among-e heads a b y t in
+      let (m, g, n, f) = among-e heads b c y u in
+      omega (arith, S .climb k m h (omega arith) n)
+
+  -- what stands in one of them stands in both together
+  left : (y : ℕ) → T (among heads a b y) → T (among heads a c y)
+  left y t = let (k, h, l, e) = among-e heads a b y t in among-i heads a c k y h (omega arith) e
+
+  right : (y : ℕ) → T (among heads b c y) → T (among heads a c y)
+  right y t = let (k, h, l, e) = among-e heads b c y t in among-i heads a c k y (omega arith) l e
+
+  -- and nothing else does
+  parts : (y : ℕ) → T (among heads a c y) → T (among heads a b y) ⊎ T (among heads b c y)
+  parts y t =
+      let (k, h, l, e) = among-e heads a c y t in
+      either (split (ltb k b))
+      (λ u. inl (among-i heads a b k y h (ltb-true k b u) e))
+      (λ u. inr (among-i heads b c k y (ltb-false k b u) l e))
+
+  -- so those counted in both are those of the one and those of the other
+  both : (marks : List ℕ) → howMany (counted heads marks a c) 4096 ≡ howMany (counted heads marks a b) 4096 + howMany (counted heads marks b c) 4096
+  both marks =
+      let p = among heads a b in
+      let q = among heads b c in
+      let u = among heads a c in
+      let m = says marks in
+      many-same (λ y. u y && m y) (λ y. (p y && m y) || (q y && m y)) 4096
+      (λ y l. (
+        λ t. either (parts y (and-l (u y) (m y) t))
+            (λ h. or-l (p y && m y) (q y && m y) (and-i (p y) (m y) h (and-r (u y) (m y) t)))
+            (λ h. or-r (p y && m y) (q y && m y) (and-i (q y) (m y) h (and-r (u y) (m y) t))),
+        λ t. either (or-e (p y && m y) (q y && m y) t)
+            (λ h. and-i (u y) (m y) (left y (and-l (p y) (m y) h)) (and-r (p y) (m y) h))
+            (λ h. and-i (u y) (m y) (right y (and-l (q y) (m y) h)) (and-r (q y) (m y) h)),
+      ))
+      ∙ many-or (λ y. p y && m y) (λ y. q y && m y) 4096 (λ y t h. apart y (and-l (p y) (m y) t) (and-l (q y) (m y) h))
 
 -- ---- one triangle
 
--- it is looked at, and counted, if the edge to y is marked
-pub data Turn (C : EdgeCosts) (marks : List ℕ) (i j y : ℕ) (D : EdgeCosts) (s : ℕ) (D′ : EdgeCosts) (s′ : ℕ) : Type 0 where
-  looked-at : T (says marks y) → D′ ≡ taken C (getD (C .up) i 0) (getD (C .down) i 0) j y D → s′ ≡ s + 1 → Turn C marks i j y D s D′ s′
-  left-out : (T (says marks y) → ⊥) → D′ ≡ D → s′ ≡ s → Turn C marks i j y D s D′ s′
-
 -- what is taken, in each direction
-taken-is : (C D D′ : EdgeCosts) (i j y : ℕ) → D′ ≡ taken C (getD (C .up) i 0) (getD (C .down) i 0) j y D → (d : Direction)
-    → chosen d D′ ≡ atMost (chosen d D) y (along d (across C) i j)
-taken-is C D D′ i j y e Up = ap (λ (D : EdgeCosts). D .up) e
-taken-is C D D′ i j y e Down = ap (λ (D : EdgeCosts). D .down) e
+taken-is : (C D D′ : EdgeCosts) (rise fall j y : ℕ) → D′ ≡ taken C rise fall j y D → (d : Direction)
+    → chosen d D′ ≡ atMost (chosen d D) y (wayTo C rise fall d j)
+taken-is C D D′ rise fall j y e Up = ap (λ (D : EdgeCosts). D .up) e
+taken-is C D D′ rise fall j y e Down = ap (λ (D : EdgeCosts). D .down) e
 
 -- a place for each position, in one direction
 seat-in : {D : EdgeCosts} → Seats D → (d : Direction) → length (chosen d D) ≡ 4096
 seat-in S Up = S .up-long
 seat-in S Down = S .down-long
 
--- ---- what stands behind place i and before place j
+-- both lists of costs go as far as to an earlier place
+pub costed-part : {C : EdgeCosts} {a b : ℕ} → Costed C b → a ≤ b → Costed C a
+costed-part K l = record { up-in = omega (arith, K .up-in); down-in = omega (arith, K .down-in) }
 
--- what has a place there is among them, and what is among them has one
-pub among-i : (heads : List ℕ) (i j b y : ℕ) → i < b → b < j → getD heads b 0 ≡ y → T (among heads i j y)
-unfolding among
-among-i heads i j b y h l e =
-    some-i (λ b. ltb i b && eqb (getD heads b 0) y) j b l (and-i (ltb i b) (eqb (getD heads b 0) y) (ltb-i i b h) (eqb-i (getD heads b 0) y e))
-
-pub among-e : (heads : List ℕ) (i j y : ℕ) → T (among heads i j y) → (b : ℕ) × (i < b) × (b < j) × (getD heads b 0 ≡ y)
-unfolding among
-among-e heads i j y t =
-    let (b, l, u) = some-e (λ b. ltb i b && eqb (getD heads b 0) y) j t in
-    (b, ltb-e i b (and-l (ltb i b) (eqb (getD heads b 0) y) u), l, eqb-e (getD heads b 0) y (and-r (ltb i b) (eqb (getD heads b 0) y) u))
-
--- with one place more there is nothing else but what stands there
-among-more : (heads : List ℕ) (i j y : ℕ) → T (among heads i j y) → T (among heads i (j + 1) y)
-among-more heads i j y t = let (b, h, l, e) = among-e heads i j y t in among-i heads i (j + 1) b y h (omega arith) e
-
-among-less : (heads : List ℕ) (i j y : ℕ) → getD heads j 0 ≢ y → T (among heads i (j + 1) y) → T (among heads i j y)
-among-less heads i j y n t =
-    let (b, h, l, e) = among-e heads i (j + 1) y t in
-    either (same-or-not b j) (λ d. absurd (n (ap (λ k. getD heads k 0) (sym d) ∙ e))) (λ d. among-i heads i j b y h (omega arith) e)
-
--- ---- those of one row
-
--- y is counted
-abbrev counted : (heads marks : List ℕ) (i j y : ℕ) → Bool
-counted heads marks i j y = among heads i j y && says marks y
-
-module _ {G : Graph} {C : EdgeCosts} {marks : List ℕ} {i : ℕ} {D₀ : EdgeCosts} where
-  -- no more than there are positions
-  pub looked-few : {j : ℕ} {D : EdgeCosts} {r : ℕ} → Looked G C marks i j D₀ D r → r ≤ 4096
-  looked-few {j} L = omega (arith, L .number, many-le (counted (G .heads) marks i j) 4096)
-
-  -- between place i and the next there is none
-  pub looked-none : Seats D₀ → Looked G C marks i (i + 1) D₀ D₀ 0
-  looked-none S =
+module _ {heads marks : List ℕ} {C : EdgeCosts} {rise fall : ℕ} where
+  -- where nothing is marked there is none
+  pub looked-none : {a b s : ℕ} {D : EdgeCosts} → Seats D → ((k : ℕ) → a ≤ k → k < b → T (says marks (getD heads k 0)) → ⊥)
+      → Looked heads C marks rise fall a b D D s s
+  looked-none {a} {b} S n =
       record {
         seats = S;
-        hit = λ d b h l t. absurd (omega arith);
-        miss = λ d y n. refl;
-        number = sym (many-none (counted (G .heads) marks i (i + 1)) 4096
-            (λ y l t. let (b, h, g, e) = among-e (G .heads) i (i + 1) y (and-l (among (G .heads) i (i + 1) y) (says marks y) t) in omega arith));
+        hit = λ d k h l t. absurd (n k h l t);
+        miss = λ d y m. refl;
+        number = omega (
+          arith,
+          many-none (counted heads marks a b) 4096
+              (λ y l t.
+              let (k, h, g, e) = among-e heads a b y (and-l (among heads a b y) (says marks y) t) in
+              n k h g (subst (λ v. T (says marks v)) (sym e) (and-r (among heads a b y) (says marks y) t))),
+        );
       }
 
-  module _ {j y : ℕ} {D : EdgeCosts} {s : ℕ} (L : Looked G C marks i j D₀ D s) (ij : i < j) (ey : y ≡ getD (G .heads) j 0) (seat : y < 4096)
-      (apart : (b : ℕ) → i < b → b < j → getD (G .heads) b 0 ≢ y) where
-    -- y stands at place j for the first time
-    fresh : T (among (G .heads) i j y) → ⊥
-    fresh t = let (b, h, l, e) = among-e (G .heads) i j y t in apart b h l e
+  -- none to what stands at place j, if that is not marked
+  pub looked-past : {j y s : ℕ} {D : EdgeCosts} → Seats D → y ≡ getD heads j 0 → (T (says marks y) → ⊥) → Looked heads C marks rise fall j (j + 1) D D s s
+  looked-past {j} S ey n =
+      looked-none S (λ k h l t. let f : k ≡ j = omega arith in n (subst (λ v. T (says marks v)) (ap (λ k. getD heads k 0) f ∙ sym ey) t))
 
-    -- of any other, one place more changes nothing
-    others : (w : ℕ) → w ≢ y → Same (counted (G .heads) marks i j w) (counted (G .heads) marks i (j + 1) w)
-    others w d = (
-      λ t. and-i (among (G .heads) i (j + 1) w) (says marks w) (among-more (G .heads) i j w (and-l (among (G .heads) i j w) (says marks w) t))
-          (and-r (among (G .heads) i j w) (says marks w) t),
-      λ t. and-i (among (G .heads) i j w) (says marks w)
-          (among-less (G .heads) i j w (λ e. d (sym e ∙ sym ey)) (and-l (among (G .heads) i (j + 1) w) (says marks w) t))
-          (and-r (among (G .heads) i (j + 1) w) (says marks w) t),
+  -- the one to what stands at place j, if that is marked
+  pub looked-one : {j y s : ℕ} {D D′ : EdgeCosts} → Seats D → y ≡ getD heads j 0 → y < 4096 → T (says marks y) → D′ ≡ taken C rise fall j y D
+      → Looked heads C marks rise fall j (j + 1) D D′ s (s + 1)
+  looked-one {j} {y} {s} {D} {D′} S ey seat m e =
+      let o : (d : Direction) → Stored (chosen d D) y (min (getD (chosen d D) y 0) (wayTo C rise fall d j)) (chosen d D′) =
+      λ d. stored (chosen d D) (chosen d D′) y _ (taken-is C D D′ rise fall j y e d) (omega (arith, seat-in S d)) in
+      let here : T (among heads j (j + 1) y) = among-i heads j (j + 1) j y (omega arith) (omega arith) (sym ey) in
+      let only : (w : ℕ) → T (among heads j (j + 1) w) → w ≡ y =
+      λ w t. let (k, h, l, f) = among-e heads j (j + 1) w t in let g : k ≡ j = omega arith in sym f ∙ ap (λ k. getD heads k 0) g ∙ sym ey in
+      record {
+        seats = record { up-long = o Up .long ∙ S .up-long; down-long = o Down .long ∙ S .down-long };
+        hit = λ d k h l t. let f : k ≡ j = omega arith in rw (f, sym ey) (o d .here);
+        miss = λ d w n. o d .off w (λ f. n (subst (λ v. T (among heads j (j + 1) v)) (sym f) here) (subst (λ v. T (says marks v)) (sym f) m));
+        number =
+            omega (
+              arith,
+              many-none (λ w. false) 4096 (λ w l t. t),
+              many-more (λ w. false) (counted heads marks j (j + 1)) 4096 y seat (λ t. t) (and-i (among heads j (j + 1) y) (says marks y) here m)
+                  (λ w d. (λ t. absurd t, λ t. d (only w (and-l (among heads j (j + 1) w) (says marks w) t)))),
+            );
+      }
+
+  -- no more than there are positions
+  pub looked-few : {a b s r : ℕ} {D D′ : EdgeCosts} → Looked heads C marks rise fall a b D D′ s r → r ≤ s + 4096
+  looked-few {a} {b} L = omega (arith, L .number, many-le (counted heads marks a b) 4096)
+
+  module _ {a b c : ℕ} (S : Stretch heads a c) (ab : a ≤ b) where
+    -- and fewer where one more stands behind them
+    pub looked-fewer : {s r : ℕ} {D D′ : EdgeCosts} → b < c → Looked heads C marks rise fall a b D D′ s r → r < s + 4096
+    looked-fewer bc L =
+        let y = getD heads b 0 in
+        omega (
+          arith,
+          L .number,
+          many-less (counted heads marks a b) 4096 y (S .seat b ab bc)
+              (λ t. apart S ab (omega arith) y (and-l (among heads a b y) (says marks y) t) (among-i heads b c b y (omega arith) bc refl)),
+        )
+
+    -- those of one stretch and then of the next are those of both
+    pub looked-join : {s r r′ : ℕ} {D D′ D″ : EdgeCosts} → b ≤ c → Looked heads C marks rise fall a b D D′ s r → Looked heads C marks rise fall b c D′ D″ r r′
+        → Looked heads C marks rise fall a c D D″ s r′
+    looked-join {D = D} {D′} bc L M =
+        record {
+          seats = M .seats;
+          hit = λ d k h l t.
+              let y = getD heads k 0 in
+              either (split (ltb k b))
+              (λ u.
+              let low = among-i heads a b k y h (ltb-true k b u) refl in
+              M .miss d y (λ v w. apart S ab bc y low v) ∙ L .hit d k h (ltb-true k b u) t)
+              (λ u.
+              let high = among-i heads b c k y (ltb-false k b u) l refl in
+              let e : getD (chosen d D′) y 0 ≡ getD (chosen d D) y 0 = L .miss d y (λ v w. apart S ab bc y v high) in
+              M .hit d k (ltb-false k b u) l t ∙ ap (λ v. min v (wayTo C rise fall d k)) e);
+          miss = λ d y n. M .miss d y (λ t u. n (right S ab bc y t) u) ∙ L .miss d y (λ t u. n (left S ab bc y t) u);
+          number = omega (arith, L .number, M .number, both S ab bc marks);
+        }
+
+-- ---- the row
+
+-- what lies behind a place of a row is a stretch, and both lists of costs go up to its end
+pub row-laid : {G : Graph} {C : EdgeCosts} {z i end : ℕ} → Lists G C → z < count (G .first) → InRow G z i → end ≡ getD (G .first) (z + 1) 0
+    → (i < end) × Stretch (G .heads) (i + 1) end × Costed C end
+row-laid {G} {C} {z} {i} {end} L under r e =
+    let l : i < end = omega (arith, r .high, next-row G z) in
+    let a = in-heads (L .rows) z (end - 1) under (in-row-i G z (end - 1) (omega (arith, r .low)) (omega arith)) .0 in (
+      l,
+      stretch-part (stretch-row (record { rows = L .rows; few = L .few; under = under }) r) (omega arith) (omega arith),
+      record { up-in = omega (arith, L .up-long); down-in = omega (arith, L .down-long) },
     )
-
-    -- one triangle more
-    pub looked-more : {D′ : EdgeCosts} {s′ : ℕ} → Turn C marks i j y D s D′ s′ → Looked G C marks i (j + 1) D₀ D′ s′
-    looked-more {D′} (looked-at m e es) =
-        let o : (d : Direction) → Stored (chosen d D) y (min (getD (chosen d D) y 0) (along d (across C) i j)) (chosen d D′) =
-        λ d. stored (chosen d D) (chosen d D′) y _ (taken-is C D D′ i j y e d) (omega (arith, seat-in (L .seats) d)) in
-        record {
-          seats = record { up-long = o Up .long ∙ L .seats .up-long; down-long = o Down .long ∙ L .seats .down-long };
-          hit = λ d b h l t.
-              either (same-or-not b j)
-              (λ f.
-              let g : getD (G .heads) b 0 ≡ y = ap (λ k. getD (G .heads) k 0) f ∙ sym ey in
-              rw (g, f) (omega (arith, o d .here, L .miss d y (λ t u. fresh t))))
-              (λ f. o d .off (getD (G .heads) b 0) (apart b h (omega arith)) ∙ L .hit d b h (omega arith) t);
-          miss = λ d w n.
-              o d .off w (λ f. n (among-i (G .heads) i (j + 1) j w ij (omega arith) (sym ey ∙ sym f)) (subst (λ v. T (says marks v)) (sym f) m))
-              ∙ L .miss d w (λ t u. n (among-more (G .heads) i j w t) u);
-          number =
-              let more : howMany (counted (G .heads) marks i (j + 1)) 4096 ≡ howMany (counted (G .heads) marks i j) 4096 + 1 =
-              many-more (counted (G .heads) marks i j) (counted (G .heads) marks i (j + 1)) 4096 y seat (λ t. fresh (and-l (among (G .heads) i j y) (says marks y) t))
-              (and-i (among (G .heads) i (j + 1) y) (says marks y) (among-i (G .heads) i (j + 1) j y ij (omega arith) (sym ey)) m) others in
-              omega (arith, L .number);
-        }
-    looked-more {D′} (left-out m e es) =
-        let un : (w : ℕ) → w ≡ y → T (says marks w) → ⊥ = λ w f t. m (subst (λ v. T (says marks v)) f t) in
-        record {
-          seats = subst Seats (sym e) (L .seats);
-          hit = λ d b h l t.
-              either (same-or-not b j)
-              (λ f. absurd (un (getD (G .heads) b 0) (ap (λ k. getD (G .heads) k 0) f ∙ sym ey) t))
-              (λ f. rw e (L .hit d b h (omega arith) t));
-          miss = λ d w n. rw e (L .miss d w (λ t u. n (among-more (G .heads) i j w t) u));
-          number =
-              let same : howMany (counted (G .heads) marks i j) 4096 ≡ howMany (counted (G .heads) marks i (j + 1)) 4096 =
-              many-same (counted (G .heads) marks i j) (counted (G .heads) marks i (j + 1)) 4096
-              (λ w l. either (same-or-not w y)
-              (λ f. (
-                λ t. absurd (un w f (and-r (among (G .heads) i j w) (says marks w) t)),
-                λ t. absurd (un w f (and-r (among (G .heads) i (j + 1) w) (says marks w) t)),
-              ))
-              (λ f. others w f)) in
-              omega (arith, L .number);
-        }
-
--- the places of z's row between i and j have been looked at
-pub record Looking (G : Graph) (C : EdgeCosts) (marks : List ℕ) (z i end : ℕ) (D₀ : EdgeCosts) (j : ℕ) (D : EdgeCosts) (s : ℕ) : Type 0 where
-  pub end-is : end ≡ getD (G .first) (z + 1) 0
-  pub later : i < j
-  pub within : j ≤ end
-  pub looked : Looked G C marks i j D₀ D s
-
--- what stands at a place of the row, and what the edge costs there, can be read
-pub row-in : {G : Graph} {C : EdgeCosts} {z i : ℕ} → Lists G C → z < count (G .first) → InRow G z i
-    → (i < length (G .heads)) × (i < length (C .up)) × (i < length (C .down))
-row-in {z = z} {i} L under row =
-    let (a, b) = in-heads (L .rows) z i under row in
-    (b, omega (arith, a, L .up-long), omega (arith, a, L .down-long))
-
-module _ {G : Graph} {C : EdgeCosts} {z i : ℕ} (L : Lists G C) (under : z < count (G .first)) (row : InRow G z i) where
-  -- at first none has been
-  pub looking-start : {marks : List ℕ} {end : ℕ} {D : EdgeCosts} → Seats D → end ≡ getD (G .first) (z + 1) 0 → Looking G C marks z i end D (i + 1) D 0
-  looking-start S e =
-      record { end-is = e; later = omega arith; within = omega (arith, row .high, next-row G z); looked = looked-none S }
-
-  module _ {marks : List ℕ} {end j : ℕ} {D₀ D : EdgeCosts} {s : ℕ} (K : Looking G C marks z i end D₀ j D s) (l : j < end) where
-    -- place j is one of the row
-    rj : InRow G z j
-    rj = in-row-i G z j (omega (arith, row .low, K .later)) (omega (arith, K .end-is))
-
-    -- the entry at place j
-    pub looking-j : (j < length (G .heads)) × (getD (G .heads) j 0 < 4096)
-    looking-j = (row-in L under rj .0, omega (arith, L .few, L .rows .below z j under rj))
-
-    -- what one triangle asks
-    pub looking-asks : {y : ℕ} → y ≡ getD (G .heads) j 0 → (j < length (C .up)) × (j < length (C .down)) × (y < 4096)
-    looking-asks e = let b = row-in L under rj in (b .1, b .2, omega (arith, looking-j .1))
-
-    -- one triangle more
-    pub looking-more : {y : ℕ} {D′ : EdgeCosts} {s′ : ℕ} → y ≡ getD (G .heads) j 0 → Turn C marks i j y D s D′ s′
-        → Looking G C marks z i end D₀ (j + 1) D′ s′
-    looking-more e A =
-        record {
-          end-is = K .end-is;
-          later = omega (arith, K .later);
-          within = omega arith;
-          looked = looked-more (K .looked) (K .later) e (omega (arith, looking-j .1))
-              (λ b h g f. omega (arith, L .rows .climb z b j under (in-row-i G z b (omega (arith, row .low)) (omega (arith, K .end-is))) rj g)) A;
-        }
-
--- all of the row
-pub looking-all : {G : Graph} {C : EdgeCosts} {marks : List ℕ} {z i end j : ℕ} {D₀ D : EdgeCosts} {s : ℕ} → Looking G C marks z i end D₀ j D s → end ≤ j
-    → Looked G C marks i (getD (G .first) (z + 1) 0) D₀ D s
-looking-all {G} {C} {marks} {z} {i} {j = j} {D₀} {D} {s} K l =
-    subst (λ v. Looked G C marks i v D₀ D s) (let e : j ≡ getD (G .first) (z + 1) 0 = omega (arith, K .end-is, K .within) in e) (K .looked)

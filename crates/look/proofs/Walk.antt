@@ -20,10 +20,10 @@ use Rattle.theory.specs.Rows.{InRow, Rows, Lists, count}
 use Rattle.theory.proofs.Words.{either, split, true-holds, holds-true, true-false, same-or-not, same-test, and-i, and-l, and-r, some-i, some-e, eqb-e, eqb-i, ltb-i, ltb-e, cond-true, cond-false, least-start, least-same, least-top, least-once}
 use Rattle.theory.proofs.Rows.{linked-e, linked-i, in-row-i, next-row, before}
 use Rattle.lists.specs.Lent.{chosen}
-use Rattle.turns.specs.Edges.{At, across}
+use Rattle.turns.specs.Edges.{At}
 use Rattle.turns.specs.Met.{Met, AllMet}
 use Rattle.reconsider.specs.Marks.{says}
-use Rattle.look.specs.Looking.{Seats, among, Looked, Below, overCorner, LookedRow}
+use Rattle.look.specs.Looking.{Seats, wayTo, among, Looked, Below, overCorner, LookedRow}
 use Rattle.theory.proofs.Totals.{total-same, total-none, total-once, many-same, many-none}
 use Rattle.look.proofs.Looked.{among-i, among-e, looked-few}
 
@@ -76,7 +76,7 @@ over-none Down joined cost x y z n =
 -- one that has both, at places i and b, gives what stands there
 over-is : {G : Graph} {C : EdgeCosts} {cost : ℕ → ℕ → ℕ} {z i b : ℕ} (d : Direction) (x y : ℕ) → At G C cost z i → At G C cost z b
     → getD (G .heads) i 0 ≡ x → getD (G .heads) b 0 ≡ y → T (linked G z x) → T (linked G z y)
-    → along d (across C) i b ≡ along d (over (linked G) cost) x y z
+    → wayTo C (getD (C .up) i 0) (getD (C .down) i 0) d b ≡ along d (over (linked G) cost) x y z
 over-is {G} {C} {cost} {z} {i} {b} Up x y A B ei eb jx jy =
     let di : getD (C .down) i 0 ≡ cost x z = A .stands Down ∙ ap (λ v. cost v z) ei in
     let ub : getD (C .up) b 0 ≡ cost z y = B .stands Up ∙ ap (cost z) eb in
@@ -107,18 +107,19 @@ least-more f g top n z v v′ l h t e ev (inr s) =
 
 -- ---- the walk
 
--- the first t rows met have given what they have
-pub record Walk (G : Graph) (C : EdgeCosts) (marks : List ℕ) (x m : ℕ) (met : List ℕ) (D₀ : EdgeCosts) (t : ℕ) (D : EdgeCosts) (r : ℕ) : Type 0 where
+-- the first t rows met have given what they have: r triangles are counted by then, where s were before
+pub record Walk (G : Graph) (C : EdgeCosts) (marks : List ℕ) (x m : ℕ) (met : List ℕ) (D₀ : EdgeCosts) (s t : ℕ) (D : EdgeCosts) (r : ℕ) : Type 0 where
   pub within : t ≤ m
   pub seats : Seats D
   pub lowest : (d : Direction) (cost : ℕ → ℕ → ℕ) → Below G cost x C → (k : ℕ) → InRow G x k → T (says marks (getD (G .heads) k 0))
       → getD (chosen d D₀) (getD (G .heads) k 0) 0 ≤ closed
       → getD (chosen d D) (getD (G .heads) k 0) 0
       ≡ least (metOnly met t (along d (over (linked G) cost) x (getD (G .heads) k 0)) closed) (getD (chosen d D₀) (getD (G .heads) k 0) 0) x
-  pub number : r ≡ total (metOnly met t (overCorner (linked G) marks x) 0) x
-  pub few : r ≤ 4096 * t
+  pub number : r ≡ s + total (metOnly met t (overCorner (linked G) marks x) 0) x
+  pub few : r ≤ s + 4096 * t
 
-pub walk-start : {G : Graph} {C : EdgeCosts} {marks : List ℕ} {x m : ℕ} {met : List ℕ} {D : EdgeCosts} → Seats D → Walk G C marks x m met D 0 D 0
+pub walk-start : {G : Graph} {C : EdgeCosts} {marks : List ℕ} {x m : ℕ} {met : List ℕ} {D : EdgeCosts} {s : ℕ} → Seats D
+    → Walk G C marks x m met D s 0 D s
 walk-start {G} {marks = marks} {x} {met = met} {D} S =
     record {
       within = omega arith;
@@ -127,7 +128,9 @@ walk-start {G} {marks = marks} {x} {met = met} {D} S =
           let y = getD (G .heads) k 0 in
           let f = along d (over (linked G) cost) x y in
           sym (least-top (metOnly met 0 f closed) (getD (chosen d D) y 0) x (λ w l. omega (arith, met-none met f closed w)));
-      number = sym (total-none (metOnly met 0 (overCorner (linked G) marks x) 0) x (λ w l. met-none met (overCorner (linked G) marks x) 0 w));
+      number =
+          let f = overCorner (linked G) marks x in
+          omega (arith, total-none (metOnly met 0 f 0) x (λ w l. met-none met f 0 w));
       few = omega arith;
     }
 
@@ -139,9 +142,9 @@ module _ {G : Graph} {C : EdgeCosts} {x m : ℕ} {met at : List ℕ} (L : Lists 
   J = linked G
 
   -- all that are met have given what they have: and no other row has x and anything behind it
-  pub walk-end : {marks : List ℕ} {D₀ D : EdgeCosts} {t r : ℕ} → AllMet G x m met → m ≤ t → Walk G C marks x m met D₀ t D r
-      → LookedRow G C marks x D₀ D r
-  walk-end {marks} {D₀} {D} {t} A h K =
+  pub walk-end : {marks : List ℕ} {D₀ D : EdgeCosts} {s t r : ℕ} → AllMet G x m met → m ≤ t → Walk G C marks x m met D₀ s t D r
+      → LookedRow G C marks x D₀ D s r
+  walk-end {marks} {D₀} {D} {t = t} A h K =
       record {
         seats = K .seats;
         lowest = λ d cost B k r s u.
@@ -151,9 +154,8 @@ module _ {G : Graph} {C : EdgeCosts} {x m : ℕ} {met at : List ℕ} (L : Lists 
             ∙ least-same (metOnly met t f closed) f (getD (chosen d D₀) y 0) x
             (λ w l. all f closed w l (λ n. over-none d J cost x y w (n y (R .above x k under r))));
         number =
-            K .number
-            ∙ total-same (metOnly met t (overCorner J marks x) 0) (overCorner J marks x) x
-            (λ w l. all (overCorner J marks x) 0 w l (corner-none J marks x w));
+            let f = overCorner J marks x in
+            omega (arith, K .number, total-same (metOnly met t f 0) f x (λ w l. all f 0 w l (corner-none J marks x w)));
         few = omega (arith, K .few, K .within, M .few, L .few);
       }
     where
@@ -208,34 +210,35 @@ module _ {G : Graph} {C : EdgeCosts} {x m : ℕ} {met at : List ℕ} (L : Lists 
         let (a, q, e) = meets in
         (b, before G z i b (λ i j. R .climb z i j zn) q r (omega arith), omega (arith, r .high, next-row G z), r, d)
 
-    ahead : (y : ℕ) → T (among (G .heads) i (getD (G .first) (z + 1) 0) y) → (x < y) × T (J z y)
+    ahead : (y : ℕ) → T (among (G .heads) (i + 1) (getD (G .first) (z + 1) 0) y) → (x < y) × T (J z y)
     ahead y u =
-        let (b, g, l, d) = among-e (G .heads) i (getD (G .first) (z + 1) 0) y u in
+        let (b, g, l, d) = among-e (G .heads) (i + 1) (getD (G .first) (z + 1) 0) y u in
         let r = in-row-i G z b (omega (arith, meets .1 .low)) l in
-        (omega (arith, R .climb z i b zn (meets .1) r g, meets .2), linked-i R z b y zn r d)
+        (omega (arith, R .climb z i b zn (meets .1) r (omega arith), meets .2), linked-i R z b y zn r d)
 
     -- how many triangles it has
     corner-is : (marks : List ℕ)
-        → howMany (λ y. among (G .heads) i (getD (G .first) (z + 1) 0) y && says marks y) 4096 ≡ overCorner J marks x z
+        → howMany (λ y. among (G .heads) (i + 1) (getD (G .first) (z + 1) 0) y && says marks y) 4096 ≡ overCorner J marks x z
     unfolding overCorner
     corner-is marks =
         let e = getD (G .first) (z + 1) 0 in
-        many-same (λ y. among (G .heads) i e y && says marks y) (λ y. corner J x y z && (ltb x y && says marks y)) 4096
+        many-same (λ y. among (G .heads) (i + 1) e y && says marks y) (λ y. corner J x y z && (ltb x y && says marks y)) 4096
         (λ y l. (
           λ u.
-              let (g, j) = ahead y (and-l (among (G .heads) i e y) (says marks y) u) in
+              let (g, j) = ahead y (and-l (among (G .heads) (i + 1) e y) (says marks y) u) in
               and-i (corner J x y z) (ltb x y && says marks y) (and-i (J z x) (J z y) jx j)
-              (and-i (ltb x y) (says marks y) (ltb-i x y g) (and-r (among (G .heads) i e y) (says marks y) u)),
+              (and-i (ltb x y) (says marks y) (ltb-i x y g) (and-r (among (G .heads) (i + 1) e y) (says marks y) u)),
           λ u.
               let c : T (corner J x y z) = and-l (corner J x y z) (ltb x y && says marks y) u in
               let v : T (ltb x y && says marks y) = and-r (corner J x y z) (ltb x y && says marks y) u in
               let (b, ib, be, rb, eb) = behind y (ltb-e x y (and-l (ltb x y) (says marks y) v)) (and-r (J z x) (J z y) c) in
-              and-i (among (G .heads) i e y) (says marks y) (among-i (G .heads) i e b y ib be eb) (and-r (ltb x y) (says marks y) v),
+              and-i (among (G .heads) (i + 1) e y) (says marks y) (among-i (G .heads) (i + 1) e b y (omega arith) be eb) (and-r (ltb x y) (says marks y) v),
         ))
 
-    pub walk-more : {marks : List ℕ} {D₀ D D′ : EdgeCosts} {r s : ℕ} → Walk G C marks x m met D₀ t D r
-        → Looked G C marks i (getD (G .first) (z + 1) 0) D D′ s → Walk G C marks x m met D₀ (t + 1) D′ (r + s)
-    walk-more {marks} {D₀} {D} {D′} {r} {s} K S =
+    pub walk-more : {marks : List ℕ} {D₀ D D′ : EdgeCosts} {s r r′ : ℕ} → Walk G C marks x m met D₀ s t D r
+        → Looked (G .heads) C marks (getD (C .up) i 0) (getD (C .down) i 0) (i + 1) (getD (G .first) (z + 1) 0) D D′ r r′
+        → Walk G C marks x m met D₀ s (t + 1) D′ r′
+    walk-more {marks} {D₀} {D} {D′} K S =
         record {
           within = omega arith;
           seats = S .seats;
@@ -250,7 +253,7 @@ module _ {G : Graph} {C : EdgeCosts} {x m : ℕ} {met at : List ℕ} (L : Lists 
               (λ e.
               let jy = true-holds (J z y) e in
               let (b, ib, be, rb, eb) = behind y (R .above x k under rk) jy in
-              let hit = S .hit d b ib be (subst (λ v. T (says marks v)) (sym eb) u) in
+              let hit = S .hit d b (omega arith) be (subst (λ v. T (says marks v)) (sym eb) u) in
               let o = over-is d x y (B .there z i (meets .0) (meets .1)) (B .there z b (meets .0) rb) (meets .2) eb jx jy in
               inl (rw now (rw (eb, o) at hit)))
               (λ e.

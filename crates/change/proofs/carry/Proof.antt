@@ -56,14 +56,7 @@ turn-requires c κs =
     let A = begun t .pre .0 in
     let K = t .before .loop .inv in
     let (M, all) = carrying-met A K (t .loop-test .taken) (g .gather-row .ensures .1) in
-    (carrying-carriage A K, position t .under, K .reaches, M, all, K .ready)
-
-add-seen : tie.Need-add-seen Inv-loop μ-loop
-add-seen c =
-    let u = c .before .before .before .before .before .before in
-    let t = within (gathered u) in
-    let U = position t in
-    omega (arith, t .before .loop .inv .small, u .turn .ensures .0 .few, U .under, U .few)
+    (carrying-carriage A K, position t .under, K .reaches, M, all, K .ready, omega (arith, K .small, position t .under, position t .few))
 
 reach-from-requires : tie.Need-reach-from-requires Inv-loop μ-loop
 reach-from-requires c κs =
@@ -100,7 +93,7 @@ loop-again c =
     let (W, M) = g .gather-row .ensures in
     let (Z, E) = u .turn .ensures in
     let (el, ep) = c .queue-row .ensures in
-    carrying-more (begun t .pre .0) (t .before .loop .inv) (t .loop-test .taken) W M Z E (r .reach-from .ensures) (b .begin-row .ensures) (w .wait-at .ensures) el ep refl
+    carrying-more (begun t .pre .0) (t .before .loop .inv) (t .loop-test .taken) W M Z E (r .reach-from .ensures) (b .begin-row .ensures) (w .wait-at .ensures) el ep
 
 returns : tie.Need-returns Inv-loop μ-loop
 returns c = carrying-end (c .before .before .before .before .before .before .before .before .before .before .before .before .pre .0) (c .before .loop .inv) (c .loop-test .left)
@@ -115,7 +108,6 @@ carry-spec =
     loop-holds
     gather-row-requires
     turn-requires
-    add-seen
     reach-from-requires
     begin-row-requires
     wait-at-requires

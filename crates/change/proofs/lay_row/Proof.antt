@@ -2,7 +2,7 @@
 use borrow.Author.Needs.{needs}
 use native.Mathlib.Omega.{arith}
 use mathlib.Core.Path.{refl}
-use Prim.Native.Nat.{_+_, _-_, _≤_, _<_}
+use Prim.Native.Nat.{_-_, _<_}
 use lib.ListN.{length}
 use Rattle.rules.specs.Graph.{graph}
 use Rattle.rules.specs.Hierarchy.{edgeCosts}
@@ -13,11 +13,11 @@ use Rattle.change.proofs.lay_row.Statement.{statement}
 use Rattle.change.proofs.lay_row.Tie as tie
 
 abbrev Inv-loop : tie.InvT-loop
-Inv-loop heads costs order arc-at arc-next first row-heads marks ups₀ downs₀ todo₀ x from end low c₀ k₀ ups downs todo c k =
+Inv-loop heads costs order arc-at arc-next first row-heads marks ups₀ downs₀ todo₀ x end low c₀ k₀ ups downs todo c k =
     Laying heads costs order arc-at arc-next (graph first row-heads) marks x end k (edgeCosts ups downs) todo c
 
 abbrev μ-loop : tie.MeasureT-loop
-μ-loop heads costs order arc-at arc-next first row-heads marks ups₀ downs₀ todo₀ x from end low c₀ k₀ ups downs todo c k = end - k
+μ-loop heads costs order arc-at arc-next first row-heads marks ups₀ downs₀ todo₀ x end low c₀ k₀ ups downs todo c k = end - k
 
 -- place k has an entry
 reads : (c : tie.In-loop Inv-loop μ-loop)
@@ -33,22 +33,17 @@ seat c =
     let p = t .before .before .before .before .before .before .before .before .before .before .before .pre in
     omega (arith, walk-reads (p .0) (t .before .loop .inv .walk) (t .loop-test .taken) .1, c .wide3 .ensures)
 
--- the list has room for one more, and a number of 16 bits says how far place k is from the row's start
-room : (c : tie.In-loop Inv-loop μ-loop) → (c .before .loop .c < 4096) × (c .before .loop .k < c .before .before .before .before .wide .result + 4096)
-    × (c .before .before .before .before .wide .result ≤ c .before .loop .k)
+-- the list has room for one more, and a number of 32 bits holds place k
+room : (c : tie.In-loop Inv-loop μ-loop) → (c .before .loop .c < 4096) × (c .before .loop .k < 8388608)
 room c =
     let p = c .before .before .before .before .before .before .before .before .before .before .before .pre in
     let L = c .before .loop .inv in
-    let e = c .before .before .before .before .wide .ensures in (
-      listing-room (L .listing) (p .0) (L .walk) (c .loop-test .taken),
-      omega (arith, walk-few (p .0) (L .walk) (c .loop-test .taken), e),
-      omega (arith, L .walk .from, e),
-    )
+    (listing-room (L .listing) (p .0) (L .walk) (c .loop-test .taken), walk-few (p .0) (L .walk) (c .loop-test .taken))
 
 loop-holds : tie.Need-loop-holds Inv-loop μ-loop
 loop-holds c =
     let p = c .before .before .before .before .before .before .before .before .before .pre in
-    laying-start (p .3) (p .4) (c .wide2 .ensures) (c .before .before .wide .ensures)
+    laying-start (p .3) (p .4) (c .before .before .wide .ensures) (c .wide2 .ensures)
 
 mul-wide-3 : tie.Need-mul-wide-3 Inv-loop μ-loop
 mul-wide-3 c = omega (arith, reads c)
@@ -59,8 +54,8 @@ shared-slice-read-wide-3 c = omega (arith, reads (c .before))
 element-copy-out-if1 : tie.Need-element-copy-out-if1 Inv-loop μ-loop
 element-copy-out-if1 c = omega (arith, seat c)
 
-cast-t32 : tie.Need-cast-t32 Inv-loop μ-loop
-cast-t32 c = omega (arith, seat (c .before .before))
+cast-todo : tie.Need-cast-todo Inv-loop μ-loop
+cast-todo c = omega (arith, seat (c .before .before))
 
 road-cost-requires : tie.Need-road-cost-requires Inv-loop μ-loop
 road-cost-requires c κs =
@@ -90,11 +85,8 @@ mul-downs c = omega (arith, seat (c .before .before .before .before))
 element-write-downs : tie.Need-element-write-downs Inv-loop μ-loop
 element-write-downs c = omega (arith, seat (c .before .before .before .before))
 
-sub-todo : tie.Need-sub-todo Inv-loop μ-loop
-sub-todo c = omega (arith, room (c .before .before .before .before .before .before) .2)
-
-cast-todo : tie.Need-cast-todo Inv-loop μ-loop
-cast-todo c = omega (arith, room (c .before .before .before .before .before .before) .1)
+cast-todo-2 : tie.Need-cast-todo-2 Inv-loop μ-loop
+cast-todo-2 c = omega (arith, room (c .before .before .before .before .before .before) .1)
 
 mul-todo : tie.Need-mul-todo Inv-loop μ-loop
 mul-todo c = omega (arith, room (c .before .before .before .before .before .before) .0)
@@ -113,8 +105,7 @@ loop-again c =
     either (c .if1 .came)
     (λ v.
     rw (v .3, v .4, v .5, v .6)
-    (laying-more (t .before .loop .inv) (w .wide3 .ensures) (p .0) (t .loop-test .taken) (λ e. v .0 .taken e) refl (v .1 .ensures) (v .2 .ensures)
-    (t .before .before .before .before .wide .ensures) refl))
+    (laying-more (t .before .loop .inv) (w .wide3 .ensures) (p .0) (t .loop-test .taken) (λ e. v .0 .taken e) refl (v .1 .ensures) (v .2 .ensures) refl))
     (λ v. rw (v .1, v .2, v .3, v .4) (laying-past (t .before .loop .inv) (w .wide3 .ensures) (omega (arith, v .0 .left))))
 
 returns : tie.Need-returns Inv-loop μ-loop
@@ -128,26 +119,25 @@ lay-row-spec =
     μ-loop
     (λ c. search needs)
     (λ c. search needs)
-    (λ c κs. search needs)
-    (λ c. search needs)
-    (λ c. search needs)
     (λ c. search needs)
     (λ c κs. search needs)
     (λ c. search needs)
+    (λ c. search needs)
+    (λ c. search needs)
+    (λ c κs. search needs)
     loop-holds
     mul-wide-3
     shared-slice-read-wide-3
     (λ c κs. search needs)
     element-copy-out-if1
-    cast-t32
+    cast-todo
     road-cost-requires
     mul-ups
     element-write-ups
     road-cost-requires-2
     mul-downs
     element-write-downs
-    sub-todo
-    cast-todo
+    cast-todo-2
     mul-todo
     element-write-todo
     add-c

@@ -1,7 +1,6 @@
 -- `turn` meets its contract: nothing is reconsidered, or what is marked is looked at, settled and no longer marked. Assumes nothing.
 use borrow.Author.Needs.{needs}
 use mathlib.Core.Path.{_∙_}
-use native.Mathlib.Omega.{arith}
 use Rattle.turns.proofs.Waiting.{turn-of}
 use Rattle.reconsider.proofs.Said.{says-i}
 use Rattle.change.proofs.Turned.{hi-seat, marked-at-long, stepped-off, stepped-idle, stepped-more}
@@ -61,7 +60,7 @@ look-row-requires c κs =
     let e = own (row y) .before .before in
     let s = begun e in
     let p = s .pre in
-    (p .0 .lists, p .1, p .3, p .4 (says-i (s .args .on .now) (s .args .x) (e .if1 .left)), y .lay-row .ensures .seats)
+    (p .0 .lists, p .1, p .3, p .4 (says-i (s .args .on .now) (s .args .x) (e .if1 .left)), y .lay-row .ensures .seats, p .6)
 
 settle-row-requires : tie.Need-settle-row-requires
 settle-row-requires c κs =

@@ -4,17 +4,16 @@ use native.Mathlib.Omega.{arith}
 use Prim.Native.Nat.{_-_}
 use Rattle.rules.specs.Graph.{graph}
 use Rattle.rules.specs.Hierarchy.{edgeCosts}
-use Rattle.look.proofs.Looked.{looked-few}
 use Rattle.look.proofs.Walk.{Walk, walk-start, walk-end, next-row-in, walk-more}
 use Rattle.look.proofs.look_row.Statement.{statement}
 use Rattle.look.proofs.look_row.Tie as tie
 
 abbrev Inv-loop : tie.InvT-loop
-Inv-loop first row-heads up down met at m marks ups₀ downs₀ x seen₀ t₀ ups downs seen t =
-    Walk (graph first row-heads) (edgeCosts up down) marks x m met (edgeCosts ups₀ downs₀) t (edgeCosts ups downs) seen
+Inv-loop first row-heads up down met at m marks ups₀ downs₀ x so-far seen₀ t₀ ups downs seen t =
+    Walk (graph first row-heads) (edgeCosts up down) marks x m met (edgeCosts ups₀ downs₀) so-far t (edgeCosts ups downs) seen
 
 abbrev μ-loop : tie.MeasureT-loop
-μ-loop first row-heads up down met at m marks ups₀ downs₀ x seen₀ t₀ ups downs seen t = m - t
+μ-loop first row-heads up down met at m marks ups₀ downs₀ x so-far seen₀ t₀ ups downs seen t = m - t
 
 loop-holds : tie.Need-loop-holds Inv-loop μ-loop
 loop-holds c = walk-start (c .before .before .before .before .pre .4)
@@ -26,14 +25,8 @@ look-over-requires c κs =
     let t = z .before .before in
     let p = t .before .before .before .before .before .before .pre in
     let (l, r) = next-row-in (p .0) (p .1) (p .2) (t .before .loop .t) _ _ (t .loop-test .taken) (z .wide16 .ensures) (w .wide .ensures) in
-    (p .0, l, r, t .before .loop .inv .seats)
-
-add-seen : tie.Need-add-seen Inv-loop μ-loop
-add-seen c =
-    let t = c .before .before .before .before .before .before .before in
-    let p = t .before .before .before .before .before .before .pre in
     let K = t .before .loop .inv in
-    omega (arith, looked-few (c .look-over .ensures), K .few, K .within, p .0 .few, p .1, p .2 .few)
+    (p .0, l, r, K .seats, omega (arith, K .few, p .0 .few, p .1, p .2 .few))
 
 loop-again : tie.Need-loop-again Inv-loop μ-loop
 loop-again c =
@@ -63,7 +56,6 @@ look-row-spec =
     (λ c. search needs)
     (λ c κs. search needs)
     look-over-requires
-    add-seen
     (λ c. search needs)
     (λ c. search needs)
     loop-again
