@@ -1,6 +1,6 @@
 // All the checks of each call, in the paper's order, and the check of the arcs' edges. Each answers the paper's verdict on its lists.
 
-ghost use Prim.Native.Nat.{_<_};
+ghost use Prim.Native.Nat.{_<_, min, max};
 ghost use mathlib.Core.Path.{_≡_};
 ghost use mathlib.Core.List.{[], _∷_};
 ghost use lib.ListN.{length};
@@ -30,8 +30,29 @@ use lists::position_of;
 use rules::Cost;
 use rules::Found;
 use rules::Junction;
+use rules::Position;
 use rules::Refusal;
 use rules::wide;
+
+// The lower of two positions.
+fn lower(a: Position, b: Position) -> Position
+    ensures { λ r. ⌜ r .0 ≡ min (a .0) (b .0) ⌝ }
+{
+    if a.0 < b.0 {
+        return a;
+    }
+    b
+}
+
+// The higher of two positions.
+fn higher(a: Position, b: Position) -> Position
+    ensures { λ r. ⌜ r .0 ≡ max (a .0) (b .0) ⌝ }
+{
+    if a.0 < b.0 {
+        return b;
+    }
+    a
+}
 
 // Arc i has unequal ends, and no edge joins the positions at which they stand: the row of the lower lacks the higher.
 fn lacks_edge(
@@ -52,13 +73,7 @@ fn lacks_edge(
     }
     let a = position_of(rank, tail);
     let b = position_of(rank, head);
-    if a.0 < b.0 {
-        let Found::At(_) = find_edge(first, row_heads, a, b) else {
-            return true;
-        };
-        return false;
-    }
-    let Found::At(_) = find_edge(first, row_heads, b, a) else {
+    let Found::At(_) = find_edge(first, row_heads, lower(a, b), higher(a, b)) else {
         return true;
     };
     false
