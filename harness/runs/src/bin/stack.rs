@@ -1,4 +1,5 @@
 //! How much stack each call needs: the least stack of a thread on which it returns, on the lists that ask most of it.
+//! `stack --header FILE` compares what the library needs with what that header tells.
 
 use nets::order;
 use runs::lists::{stale, Call, Lent, Lists, CALLS};
@@ -7,9 +8,10 @@ use std::hint::black_box;
 use std::process::{exit, Command, Stdio};
 use std::thread;
 
-/// Stacks are tried in steps of so many bytes, up to so many steps.
+/// Stacks are tried in steps of so many bytes, up to so many bytes: coarse ones to tell, fine ones to compare.
 const STEP: usize = 16_384;
-const MOST_STEPS: usize = 1_024;
+const FINE_STEP: usize = 4_096;
+const MOST: usize = 16_777_216;
 
 /// Bytes of each thread's stack that are taken before the call, as no system makes a thread with a very small stack.
 const TAKEN: usize = 262_144;
@@ -26,6 +28,12 @@ fn main() {
         attempt(who == "library", task, size);
     }
     println!("linked: {}", calls::linked());
+    if let [option, header] = &words[..] {
+        if option != "--header" {
+            exit(2);
+        }
+        exit(i32::from(!is_told(header)));
+    }
     println!(
         "call                       library   plain Rust   (bytes of stack, to the next 16,384)"
     );
@@ -34,23 +42,62 @@ fn main() {
             Some(call) => call.name(),
             None => "change, E over 65,536",
         };
-        let [library, plain] = ["library", "plain"].map(|who| least(who, task));
+        let [library, plain] = ["library", "plain"].map(|who| least(who, task, STEP));
         println!("{name:25} {library:>8} {plain:>12}");
     }
 }
 
+/// Whether a header tells of each call what stack it needs, to the next step; what it should tell is said where it does
+/// not. A fine step either way is let pass, as what a thread itself takes is not the same everywhere.
+fn is_told(header: &str) -> bool {
+    let text = std::fs::read_to_string(header).expect("the header");
+    let text: Vec<&str> = text
+        .split_whitespace()
+        .filter(|&word| word != "*")
+        .collect();
+    let text = text.join(" ");
+    let untold = (0..TASKS).filter(|&task| {
+        let least = least("library", task, FINE_STEP);
+        let right = [least - FINE_STEP, least, least + FINE_STEP]
+            .map(|size| phrase(task, size.next_multiple_of(STEP) / 1_024));
+        let is_told = right.iter().any(|phrase| text.contains(phrase));
+        if !is_told {
+            println!("{header} does not tell: {}", right[1]);
+        }
+        !is_told
+    });
+    untold.count() == 0
+}
+
+/// What the header tells of a task's stack.
+fn phrase(task: usize, kib: usize) -> String {
+    let kib = match kib {
+        0..=999 => format!("{kib} KiB"),
+        _ => format!("{},{:03} KiB", kib / 1_000, kib % 1_000),
+    };
+    match CALLS.get(task) {
+        None => format!(", change {kib},"),
+        Some(Call::Change) => {
+            format!("Of change's, {kib} are enough for a graph of up to 65,536 edges")
+        }
+        Some(Call::Sweep(_)) => format!(", either sweep {kib},"),
+        Some(Call::Route) => format!(", route {kib}."),
+        Some(call) => format!(" {} {kib},", call.name()),
+    }
+}
+
 /// The least stack on which a call returns. An attempt with less ends its process, so each has its own.
-fn least(who: &str, task: usize) -> usize {
+fn least(who: &str, task: usize, step: usize) -> usize {
     let returns = |steps: usize| {
         let program = std::env::current_exe().expect("this program");
         let status = Command::new(program)
-            .args([who, &task.to_string(), &(steps * STEP).to_string()])
+            .args([who, &task.to_string(), &(steps * step).to_string()])
             .stdout(Stdio::null())
             .stderr(Stdio::null())
             .status();
         status.is_ok_and(|status| status.success())
     };
-    let (mut fails, mut works) = (0, MOST_STEPS);
+    let (mut fails, mut works) = (0, MOST / step);
     while works - fails > 1 {
         let middle = (fails + works) / 2;
         match returns(middle) {
@@ -58,7 +105,7 @@ fn least(who: &str, task: usize) -> usize {
             false => fails = middle,
         }
     }
-    works * STEP
+    works * step
 }
 
 /// Makes the call on a thread with so much stack, and ends the process well if it returns.
