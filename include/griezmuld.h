@@ -33,7 +33,7 @@
  *
  * Stack
  *   What a call needs besides the lists it keeps on the stack. On the lists that ask most of it, measured for x86-64 to
- *   the next 16 KiB: build 128 KiB, customise 48 KiB, change 1,184 KiB, distance 80 KiB, either sweep 48 KiB, route
+ *   the next 16 KiB: build 128 KiB, customise 48 KiB, change 1,200 KiB, distance 80 KiB, either sweep 48 KiB, route
  *   1,472 KiB. Of change's, 176 KiB are enough for a graph of up to 65,536 edges; the rest is one bit for each edge that
  *   there can be. Of route's, some 160 KiB are always used; the rest is for shortcuts made of shortcuts, some 330 bytes for
  *   each inside another. They nest 4,000 deep only if the order is as bad as can be, but nothing forbids such an order:
@@ -44,9 +44,9 @@
  *   Any lists may come in, so every call checks its lists anew, each time: a distance or a sweep goes once through order,
  *   rank, first and row_heads before it turns to the question itself, and a route through the arcs besides. On 4,096
  *   junctions with 12,794 arcs and 53,884 edges, on the machine of docs/BENCHMARKS.md, a distance takes some 0.2
- *   milliseconds, most of it checks, a route 0.6, build 0.5 and customise 3.5. A change takes 1.0 there, in the mean over
- *   arcs chosen anyhow; the dearest of 64 arcs took half of customise's instructions there, and on a path where one arc
- *   changes every row one and a half of them. Where many costs change at once, customise comes cheaper.
+ *   milliseconds, most of it checks, a route 0.5, build 0.5 and customise 2.4. A change takes 0.8 there, in the mean over
+ *   arcs chosen anyhow; the dearest of 64 arcs took four tenths of customise's instructions there, and on a path where one
+ *   arc changes every row one and a half of them. Where many costs change at once, customise comes cheaper.
  *   Many distances from one junction, or to one, come cheaper by a sweep: it makes its checks once.
  *
  * Replies
@@ -100,7 +100,7 @@ extern "C" {
 #endif
 
 /* The release that this header is of: major * 10000 + minor * 100 + patch. */
-#define GRIEZMULD_VERSION 10300u
+#define GRIEZMULD_VERSION 10301u
 
 /*
  * The cost of a closed arc, and of an edge that nobody can drive; what fills a route list where no arc stands, and

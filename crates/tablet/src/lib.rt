@@ -20,7 +20,7 @@ use rules::Junction;
 use rules::wide;
 
 // The release that this archive is of, as include/griezmuld.h writes it: major * 10000 + minor * 100 + patch.
-pub const VERSION: u32 = 10300;
+pub const VERSION: u32 = 10301;
 
 // The release, for a program that compares it with its header's.
 #[no_mangle]

@@ -25,7 +25,7 @@ pub use told::version;
 
 /// The release that these wrappers are of, as a number: where [`version`] tells another, they and the archive do not
 /// belong together.
-pub const VERSION: u32 = 10_300;
+pub const VERSION: u32 = 10_301;
 
 /// "CLOSED": the cost of a closed arc or edge; what fills a route list, and a distance list where no walk leads.
 pub const CLOSED: u32 = u32::MAX;
