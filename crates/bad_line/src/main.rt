@@ -1,4 +1,5 @@
 // Tells what is wrong with a text for the program `route`: the line, the refusal's number, the cause, and the line itself.
+#![tactic(auto)]
 
 ghost use Rattle.bad_line.specs.Room.{Room, SpanIn};
 

@@ -1,4 +1,5 @@
 // Why a line of a text for the program `route` is refused: its form first, then its words from the left, then its place among the lines.
+#![tactic(auto)]
 
 ghost use Rattle.std.specs.Prelude.{◌≤◌, ◌<◌, ◌≡◌, length};
 ghost use Rattle.std.proofs.Math.Seq.{slice};

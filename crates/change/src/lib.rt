@@ -1,4 +1,5 @@
 // A change of one arc's cost, carried up the shortcut graph: only rows from which the arc's lower end can be felt are looked at.
+#![tactic(auto)]
 
 ghost use Rattle.std.specs.Prelude.{◌+◌, ◌*◌, ◌≤◌, ◌<◌, min, max, ◌≡◌, not, ◌||◌, T, eqb, length, set, replicate};
 ghost use Rattle.rules.specs.Net.{net};

@@ -1,4 +1,5 @@
 // All the checks of each call, in the paper's order, and the check of the arcs' edges. Each answers the paper's verdict on its lists.
+#![tactic(auto)]
 
 ghost use Rattle.std.specs.Prelude.{◌<◌, ◌≡◌, [], ◌∷◌, length};
 ghost use Rattle.rules.specs.Net.{net};

@@ -77,7 +77,7 @@ laid_falling rank G t h v up down {x} {y} ex ey l e = rw (e, ← ex, ← ey) (ap
 
 module _ {N : Net} {rank : List ℕ} {G : Graph} {room : EdgeCosts} (A : Accepted N rank G room) (m : ℕ) (l : m < arcs N) where
   abbrev R : Rows (size N) G
-  R = A.rows_of_lem
+  R = A.rows_of
 
   -- the positions of its ends
   abbrev t : ℕ

@@ -73,12 +73,12 @@ module _ {N : Net} {rank : List ℕ} {G : Graph} {C₀ : EdgeCosts} (A : Accepte
     laying_start =
         record {
           within = omega arith;
-          fits = lists_of A.rows_of_lem room A.few (enough Up) (enough Down);
+          fits = lists_of A.rows_of room A.few (enough Up) (enough Down);
           lists = record {
             up_long = refl;
             down_long = refl;
             there = λ p k h r. record {
-              stands = λ d. clear d k (omega (arith, (in_heads A.rows_of_lem p k h r).0, enough d)) ∙ none_yet d p (get_or G.heads k 0);
+              stands = λ d. clear d k (omega (arith, (in_heads A.rows_of p k h r).0, enough d)) ∙ none_yet d p (get_or G.heads k 0);
             };
             past = λ d k h l. clear d k l;
           };
@@ -117,7 +117,7 @@ module _ {N : Net} {rank : List ℕ} {G : Graph} {C₀ : EdgeCosts} (A : Accepte
   pub laying_all : {room : EdgeCosts} {m : ℕ} {C C' : EdgeCosts} → Laying N G room m C → arcs N ≤ m → Turned G 0 C (size N) C' → C' ≡ customised_costs N G room
   unfolding shortcut_cost
   laying_all {m = m} {C} {C'} S l t =
-      let R = A.rows_of_lem in
+      let R = A.rows_of in
       let road = road_between N in
       let c : count G.first ≡ size N = count_is R in
       let e : m ≡ arcs N = omega (arith, S.within) in

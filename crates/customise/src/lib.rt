@@ -1,4 +1,5 @@
 // Arc costs onto the shortcut graph, then lower triangles, for any hierarchy that the checks accept.
+#![tactic(auto)]
 
 ghost use Rattle.std.specs.Prelude.{◌+◌, ◌<◌, ◌≡◌, length, get_or};
 ghost use Rattle.rules.specs.Net.{net};

@@ -1,4 +1,5 @@
 // Labels along the chains of parents above a start and a target, and where they meet.
+#![tactic(auto)]
 
 ghost use Rattle.std.specs.Prelude.{◌+◌, ◌<◌, ◌≡◌, length, get_or, replicate};
 ghost use Rattle.rules.specs.Words.{sum_to};

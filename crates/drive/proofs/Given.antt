@@ -20,8 +20,8 @@ pub given : {tails heads costs order rank : List ℕ} {G : Graph} {C : EdgeCosts
     → Given tails heads costs order G C
 given {C = C} A =
     record {
-      lists = lists_of A.rows_of_lem C A.few A.up_long A.down_long;
-      size_is = sym (count_is A.rows_of_lem);
+      lists = lists_of A.rows_of C A.few A.up_long A.down_long;
+      size_is = sym (count_is A.rows_of);
       seats = A.seats;
       heads_long = A.heads_long;
       costs_long = A.costs_long;

@@ -1,4 +1,5 @@
 // Route after its checks: the labels of both ends are followed back from where they meet, and each edge on the way is opened into its arcs.
+#![tactic(auto)]
 
 ghost use Rattle.std.specs.Prelude.{ℕ, ◌-◌, ◌≤◌, ◌<◌, ◌≡◌, List, T, length, get_or};
 ghost use Rattle.rules.specs.Replies.{route_reply};

@@ -1,4 +1,5 @@
 // Where a text for the program `route` is refused, by which number and why: at the reader's line for 14, else for what build or customise refuses.
+#![tactic(auto)]
 
 ghost use Rattle.std.specs.Prelude.{◌≤◌, ◌<◌, ◌≡◌, length};
 ghost use Rattle.rules.specs.Net.{net};

@@ -2,6 +2,7 @@
 // The set is held in a lent array: at the position and at each member stands the next member, and n at the last. Nothing is shifted, marked or
 // cleared, and what else stands in the array does not matter. Arcs are found by their lower end, and children by their parent, along threads.
 // Threads are of 16-bit numbers, half as much to clear; the set is of 32-bit numbers, which need no widening at each use.
+#![tactic(auto)]
 
 ghost use Rattle.std.specs.Prelude.{ℕ, ◌+◌, ◌≤◌, ◌<◌, ◌≡◌, Bool, length, get_or, replicate};
 ghost use Rattle.std.proofs.Math.Seq.{slice};

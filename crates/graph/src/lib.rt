@@ -1,5 +1,6 @@
 // Contraction: the rows of the shortcut graph, written straight into lent room, for each position from 0 upward.
 // The row of p is the arc neighbours of p above it together with the rows of p's children less p, so that the whole takes little more than E steps.
+#![tactic(auto)]
 
 ghost use Rattle.std.specs.Prelude.{ℕ, suc, ◌+◌, ◌-◌, ◌≤◌, ◌<◌, ◌≡◌, Bool, [], length};
 ghost use Rattle.rules.specs.Net.{net, rank_list};

@@ -1,5 +1,6 @@
 // The public calls. Any lists may come in: each call checks what it gets, in the paper's order, and then does the work.
 // Each promise is one equation: what the call leaves, reply and every lent list, is the definition at what it got.
+#![tactic(auto)]
 
 ghost use Rattle.std.specs.Prelude.{◌≡◌};
 ghost use Rattle.rules.specs.Net.{net};

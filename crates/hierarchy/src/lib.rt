@@ -1,4 +1,5 @@
 // The check of a hierarchy's lists: the order and its rank list, and the rows. It answers the paper's verdict on its lists.
+#![tactic(auto)]
 
 ghost use Rattle.std.specs.Prelude.{suc, ◌+◌, ◌≤◌, ◌<◌, ◌≡◌, ◌&&◌, [], ◌∷◌, ltb, length};
 ghost use Rattle.std.proofs.Math.Seq.{slice};

@@ -1,4 +1,5 @@
 // The checks on what is lent, and the smallest steps over lent lists. Each check answers the paper's verdict on its lists.
+#![tactic(auto)]
 
 ghost use Rattle.std.specs.Prelude.{◌+◌, ◌≤◌, ◌<◌, min, max, ◌≡◌, [], ◌∷◌, length, get_or};
 ghost use Rattle.rules.specs.Net.{rank_list};

@@ -1,4 +1,5 @@
 // The lower triangles of the edges of one row that are reconsidered: each is looked at once, and counted.
+#![tactic(auto)]
 
 ghost use Rattle.std.specs.Prelude.{◌+◌, ◌≤◌, ◌<◌, ◌≡◌, length, get_or};
 ghost use Rattle.rules.specs.Graph.{graph};

@@ -1,5 +1,6 @@
 // The stored nets, run: what each call tells and what then stands in the lent lists, to be compared with what independent programs make of the same nets.
 // What is read and what is written is told in ../README.md.
+#![tactic(auto)]
 
 use griezmuld::{build, customise, distance, route};
 use libc::{STDIN_FILENO, STDOUT_FILENO};

@@ -1,4 +1,5 @@
 // The program's answer, byte by byte, into the lent output: each function goes on at a place and answers the place behind what it wrote.
+#![tactic(auto)]
 
 ghost use Rattle.std.specs.Prelude.{◌+◌, ◌≤◌, ◌<◌, ◌≡◌, [], ◌∷◌, length};
 ghost use Rattle.rules.specs.Replies.{route_reply};

@@ -1,4 +1,5 @@
 // The program's answer: the whole text is read, the graph built and customised, and each question asked of the same lists.
+#![tactic(auto)]
 
 ghost use Rattle.std.specs.Prelude.{suc, ◌+◌, ◌≤◌, ◌≡◌, length};
 ghost use Rattle.rules.specs.Replies.{edges, route_reply};

@@ -1,4 +1,5 @@
 // The whole text, line by line, into lent lists.
+#![tactic(auto)]
 
 ghost use Rattle.std.specs.Prelude.{◌<◌, ◌≡◌, length};
 ghost use Rattle.text.specs.Program.{read_all};

@@ -1,5 +1,6 @@
 // Which edges are reconsidered: those whose road changed, and those of which a lower triangle has a changed edge. Changed edges are flagged by
 // their places; in the turn of a position the edges of its row that are reconsidered are marked at their higher ends.
+#![tactic(auto)]
 
 ghost use Rattle.std.specs.Prelude.{◌+◌, ◌*◌, ◌/◌, ◌≤◌, ◌<◌, min, ◌≡◌, true, ◌||◌, T, eqb, length, get_or};
 ghost use Rattle.rules.specs.Graph.{graph};

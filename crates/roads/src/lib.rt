@@ -1,4 +1,5 @@
 // What the road from one position to another costs, by the arcs threaded by their tails.
+#![tactic(auto)]
 
 ghost use Rattle.std.specs.Prelude.{ℕ, ◌≤◌, ◌<◌, ◌≡◌, ◌≢◌, List, length, get_or, replicate};
 ghost use Rattle.rules.specs.Net.{net, road_between};

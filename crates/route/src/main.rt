@@ -1,4 +1,5 @@
 // The program: a text with roads, an order and questions on standard input, the answer on standard output, a failure on standard error.
+#![tactic(auto)]
 
 use libc::STDIN_FILENO;
 use program::answer;

@@ -1,5 +1,6 @@
 // The paper's words as types: what a cost, a junction, a position, a direction, a refusal and each call's answer are.
 // What each means is defined in specs/, one definition for one sentence of the paper.
+#![tactic(auto)]
 
 ghost use Rattle.std.specs.Prelude.{◌+◌, ◌<◌, ◌≡◌};
 ghost use Rattle.rules.specs.Costs.{closed, none, sum_of, least_of, add_up, label_over};

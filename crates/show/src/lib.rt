@@ -1,4 +1,5 @@
 // Words, numbers and lists, written to standard output.
+#![tactic(auto)]
 
 use libc::STDOUT_FILENO;
 

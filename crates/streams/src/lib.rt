@@ -1,4 +1,5 @@
 // Bytes read to the end of the input, and bytes written, each with its failure told.
+#![tactic(auto)]
 
 ghost use Rattle.std.specs.Prelude.{length};
 ghost use Rattle.streams.specs.Got.{Came, Within};

@@ -1,4 +1,5 @@
 // The sweep: labels upward from one position, then every position from the highest down, and each junction's distance into the lent list.
+#![tactic(auto)]
 
 ghost use Rattle.std.specs.Prelude.{◌≤◌, ◌<◌, min, ◌≡◌, false, length, get_or};
 ghost use Rattle.rules.specs.Words.{least};

@@ -1,4 +1,5 @@
 // The calls for C and Rust: every list is a pointer and a length, every answer plain numbers. include/griezmuld.h declares them.
+#![tactic(auto)]
 
 ghost use Rattle.std.specs.Prelude.{◌≡◌};
 ghost use Rattle.rules.specs.Net.{net};

@@ -1,4 +1,5 @@
 // The program's text, word by word: what a line says. A cursor goes along the line by value; each answer holds the next one.
+#![tactic(auto)]
 
 ghost use Rattle.std.specs.Prelude.{◌≤◌, ◌<◌, ◌≡◌, length};
 ghost use Rattle.std.proofs.Math.Seq.{slice};

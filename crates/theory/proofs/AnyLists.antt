@@ -152,7 +152,7 @@ pub record Satisfies (N : Net) (G : Graph) (C : EdgeCosts) : Type 0 where
 pub satisfied_once : (N : Net) (rank : List ℕ) (G : Graph) (C : EdgeCosts) → Accepted N rank G C → Satisfies N G C → C ≡ customised_costs N G C
 unfolding shortcut_cost
 satisfied_once N rank G C A S =
-    let R = A.rows_of_lem in
+    let R = A.rows_of in
     let joined = linked G in
     let cost = held G C in
     let f = shortcut_cost N G in
@@ -172,13 +172,13 @@ satisfied_once N rank G C A S =
     S.down_past)
   where
     long : (p k : ℕ) (l : List ℕ) → p < size N → InRow G p k → its_e N.order G ≤ length l → k < length l
-    long p k l h r e = omega (arith, (in_heads A.rows_of_lem p k h r).0)
+    long p k l h r e = omega (arith, (in_heads A.rows_of p k h r).0)
 
 -- and that pair satisfies it
 pub satisfied : (N : Net) (rank : List ℕ) (G : Graph) (C : EdgeCosts) → Accepted N rank G C → Satisfies N G (customised_costs N G C)
 unfolding shortcut_cost
 satisfied N rank G C A =
-    let R = A.rows_of_lem in
+    let R = A.rows_of in
     let joined = linked G in
     let f = shortcut_cost N G in
     let cost = held G (customised_costs N G C) in

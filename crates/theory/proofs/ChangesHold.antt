@@ -50,17 +50,17 @@ module _ (N : Net) (rank : List ℕ) (G : Graph) (C : EdgeCosts) (arc cost : ℕ
 
   -- in either direction
   along_fresh : (d : Direction) (p k : ℕ) → p < n → InRow G p k → along d new p (get_or G.heads k 0) ≡ along d (shortcut_cost M G) p (get_or G.heads k 0)
-  along_fresh Up p k l r = new_is_fresh p (get_or G.heads k 0) (linked_i A.rows_of_lem p k (get_or G.heads k 0) l r refl)
+  along_fresh Up p k l r = new_is_fresh p (get_or G.heads k 0) (linked_i A.rows_of p k (get_or G.heads k 0) l r refl)
   along_fresh Down p k l r =
       let y = get_or G.heads k 0 in
-      new_is_fresh y p (linked_turn G p y (linked_i A.rows_of_lem p k y l r refl))
+      new_is_fresh y p (linked_turn G p y (linked_i A.rows_of p k y l r refl))
 
   -- so a list with them at the edges' places, and past E what stood there, is the list that customise fills
   list_fresh : (d : Direction) (l : List ℕ) → its_e N.order G ≤ length l
       → ((k : ℕ) → its_e N.order G ≤ k → k < length l → get_or l k 0 ≡ closed)
       → cost_list n G new d (λ k. get_or l k 0) (length l) ≡ cost_list n G (shortcut_cost M G) d (λ k. closed) (length l)
   list_fresh d l long past =
-      let R = A.rows_of_lem in
+      let R = A.rows_of in
       let stood : ℕ → ℕ = λ k. get_or l k 0 in
       let filled = cost_list n G new d stood (length l) in
       let e = length_list n G new d stood (length l) in

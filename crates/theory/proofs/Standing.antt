@@ -73,10 +73,10 @@ module _ {N : Net} {rank : List ℕ} {G : Graph} {C : EdgeCosts} (A : Accepted N
   joins =
       record {
         turn = λ {a} {b} j. linked_turn G a b j;
-        apart = λ {a} {b} j. (linked_two A.rows_of_lem a b j).2;
-        below = λ {a} {b} j. (linked_two A.rows_of_lem a b j).0;
+        apart = λ {a} {b} j. (linked_two A.rows_of a b j).2;
+        below = λ {a} {b} j. (linked_two A.rows_of a b j).0;
         roads = λ {a} {b} h. road_joins a b h;
-        third = linked_third A.rows_of_lem;
+        third = linked_third A.rows_of;
       }
 
   -- the customised costs
@@ -140,7 +140,7 @@ module _ {N : Net} {rank : List ℕ} {G : Graph} {C : EdgeCosts} (A : Accepted N
     held_cost = held G C'
 
     pub held_is : (a b : ℕ) → Joined a b → held_cost a b ≡ shortcut a b
-    held_is a b j = rw e (held_list A.rows_of_lem shortcut a b C A.up_long A.down_long j)
+    held_is a b j = rw e (held_list A.rows_of shortcut a b C A.up_long A.down_long j)
 
     pub held_small : (a b : ℕ) → held_cost a b ≤ closed
     held_small a b =

@@ -208,7 +208,7 @@ module _ {Ω n : ℕ} {road cost : ℕ → ℕ → ℕ} {joined : ℕ → ℕ �
   top_below l (go (h, j) p e) = top_below (J.below (J.turn j)) p
 
   -- a way up gives its end a label that is no greater, if it has no closed step
-  label_least : {N s q p r : ℕ} {step : ℕ → ℕ → ℕ} {label : ℕ → ℕ}
+  label_least : {N s : ℕ} {step : ℕ → ℕ → ℕ} {label : ℕ → ℕ} {q p r : ℕ}
       → Labels Ω N joined step s label → Up joined step q p r → r < Ω → label p ≤ label q + r
   label_least L (stay e) f = omega arith
   label_least L (go (h, j) p e) f = omega (arith, label_least L p (omega arith), L.least h j (omega arith))

@@ -1,5 +1,6 @@
 // Positions have their turns from the lowest up, and rows wait for the turns of their entries: so the lower rows that have a position are found
 // without a search.
+#![tactic(auto)]
 
 ghost use Rattle.std.specs.Prelude.{◌+◌, ◌≤◌, ◌<◌, ◌≡◌, length, get_or, set};
 ghost use Rattle.rules.specs.Graph.{graph};

@@ -1,5 +1,6 @@
 // Pieces opened into arcs. An edge is driven as the arc in force between its ends, if that costs as much; else as its two parts over
 // the lowest position that fits: down to it, then up from it. What is met goes straight into the lent route list.
+#![tactic(auto)]
 
 ghost use Rattle.std.specs.Prelude.{ℕ, ◌≤◌, ◌<◌, min, ◌≡◌, cond, List, [], ◌∷◌, T, length, get_or};
 ghost use Rattle.rules.specs.Costs.{add_up};

@@ -1,4 +1,5 @@
 // Document 01's small examples and document 02's rules, run: what each call tells and what then stands in the lent lists, to be compared with the papers.
+#![tactic(auto)]
 
 use griezmuld::{build, change, customise, distance, route, sweep_from, sweep_to};
 use libc::STDOUT_FILENO;

@@ -39,7 +39,7 @@ lower-all-requires : tie.Need-lower-all-requires invariant-loop decreases-loop
 lower-all-requires c κs =
     let l = c.before.before.before in
     let A = l.before.before.before.before.before.before.before.before.before.before.before.before.before.before.before.before.before.before.requires in
-    (laying_lists A l.loop.invariant, sym (count_is A.rows_of_lem))
+    (laying_lists A l.loop.invariant, sym (count_is A.rows_of))
 
 returns : tie.Need-returns invariant-loop decreases-loop
 returns c =
