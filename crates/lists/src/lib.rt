@@ -229,35 +229,18 @@ pub fn junction_at(order: &[u32], p: Position) -> Junction
     Junction(order[x])
 }
 
-// The place of the edge to y among the places from `from` up to `to` of the rows, which ascend there, or nothing. The first entry, which most
-// arcs want, is looked at alone; then two are passed at a step, by the second, up to one that is not below y: none after it can be y.
+// The place of the edge to y among the places from `from` up to `to` of the rows, or nothing: it reads to the end.
 fn find_in_row(row_heads: &[u32], from: usize, to: usize, y: Position) -> Found
-    requires { (from ≤ to) × (to ≤ length row_heads.now) × Ascending row_heads.now from to }
+    requires { (from ≤ to) × (to ≤ length row_heads.now) }
     ensures { result ≡ found_in row_heads.now from to y.0 }
 {
     let want = y.0;
-    if to <= from {
-        return Found::Nothing;
-    }
-    if row_heads[from] == want {
-        return Found::At(from);
-    }
-    let mut k = from + 1;
-    while k + 1 < to {
-        let head = row_heads[k + 1];
-        if want <= head {
-            if head == want {
-                return Found::At(k + 1);
-            }
-            if row_heads[k] == want {
-                return Found::At(k);
-            }
-            return Found::Nothing;
+    let mut k = from;
+    while k < to {
+        if row_heads[k] == want {
+            return Found::At(k);
         }
-        k += 2;
-    }
-    if row_heads[to - 1] == want {
-        return Found::At(to - 1);
+        k += 1;
     }
     Found::Nothing
 }

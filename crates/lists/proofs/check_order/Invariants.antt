@@ -1,0 +1,15 @@
+-- `check_order` meets its contract: no fault before position p, and `seen` has the junctions that stand there. Assumes nothing.
+use borrow.Author.Rules.{rules}
+use Rattle.theory.proofs.Verdicts.{Faultless, faultless_start, faultless_more, faultless_fails, faultless_passes}
+use native.Mathlib.Omega.{arith}
+use Rattle.rules.specs.Refusals.{check4, order_fault}
+use Rattle.lists.proofs.Orders.{Seen, seen_none, seen_more, large_fault, twice_fault, entry_good}
+use Prim.Native.Nat.{◌-◌}
+use lib.ListN.{length}
+use Rattle.lists.proofs.check_order.Given as goal
+
+abbrev pub invariant-loop-p : goal.invariant-loop-p
+invariant-loop-p l = Faultless (order_fault l.order) (length l.order) l.p × Seen l.order l.p l.seen
+
+abbrev pub decreases-loop-p : goal.decreases-loop-p
+decreases-loop-p l = length l.order - l.p
