@@ -13,7 +13,7 @@ ghost use Rattle.lists.specs.Lent.{verdict, Ascending, found_in, edge_found, par
 use rules::{Cost, Direction, Found, Junction, Position, Refusal, wide};
 
 // What a check answers: the lists pass, or why not.
-#[derive(Drop)]
+#[derive(Clone, Copy)]
 pub enum Check {
     Passes,
     Fails(Refusal),

@@ -25,7 +25,7 @@ pub fn wide16(x: u16) -> usize
 pub const NONE: u64 = 18446744073709551615;
 
 // A cost in tenths of a second, or CLOSED.
-#[derive(Drop)]
+#[derive(Clone, Copy)]
 pub struct Cost(pub u32);
 
 impl Cost {
@@ -83,15 +83,15 @@ impl Cost {
 }
 
 // A junction's number: roads, order entries and questions speak of junctions.
-#[derive(Drop)]
+#[derive(Clone, Copy)]
 pub struct Junction(pub u32);
 
 // A position in the order: the shortcut graph speaks of positions.
-#[derive(Drop)]
+#[derive(Clone, Copy)]
 pub struct Position(pub u32);
 
 // Along an edge from its lower end to its higher end, or the other way.
-#[derive(Drop)]
+#[derive(Clone, Copy)]
 pub enum Direction {
     Up,
     Down,
@@ -110,14 +110,14 @@ impl Direction {
 }
 
 // What the search of a row answers: the place of the wanted edge, or that there is none.
-#[derive(Drop)]
+#[derive(Clone, Copy)]
 pub enum Found {
     At(usize),
     Nothing,
 }
 
 // Why a call refuses: a case for each of the papers' numbers 1 to 17, with the place where that is not always 0.
-#[derive(Drop)]
+#[derive(Clone, Copy)]
 pub enum Refusal {
     JunctionCount,
     ArcLists,
@@ -191,28 +191,28 @@ impl Refusal {
 }
 
 // What build answers.
-#[derive(Drop)]
+#[derive(Clone, Copy)]
 pub enum BuildAnswer {
     Edges(usize),
     Refused(Refusal),
 }
 
 // What a call answers that only fills lists: customise and the sweeps.
-#[derive(Drop)]
+#[derive(Clone, Copy)]
 pub enum FillAnswer {
     Done,
     Refused(Refusal),
 }
 
 // What change answers: how many lower triangles of reconsidered edges were looked at.
-#[derive(Drop)]
+#[derive(Clone, Copy)]
 pub enum ChangeAnswer {
     Triangles(u64),
     Refused(Refusal),
 }
 
 // What distance answers: tenths of a second, or that no walk leads there.
-#[derive(Drop)]
+#[derive(Clone, Copy)]
 pub enum DistanceAnswer {
     Tenths(u64),
     NoWalk,
@@ -220,7 +220,7 @@ pub enum DistanceAnswer {
 }
 
 // What route answers: the distance and the number of arcs now in the route list.
-#[derive(Drop)]
+#[derive(Clone, Copy)]
 pub enum RouteAnswer {
     Drive { distance: u64, arcs: usize },
     NoWalk,
