@@ -10,7 +10,7 @@ use streams::{Got, read_all, tell_unread, write_out};
 use text::part_end;
 
 // Where some bytes of the text begin and end.
-#[derive(Drop)]
+#[derive(Clone, Copy)]
 pub struct Span {
     pub at: usize,
     pub end: usize,

@@ -11,7 +11,7 @@ use reader::State;
 use text::{Kind, Value, is_byte, part_end, said};
 
 // The four forms of a line that isn't a comment.
-#[derive(Drop)]
+#[derive(Clone, Copy)]
 pub enum Form {
     Problem,
     Arc,
@@ -20,7 +20,7 @@ pub enum Form {
 }
 
 // What a word behind the letter must be, or that there is none.
-#[derive(Drop)]
+#[derive(Clone, Copy)]
 pub enum Want {
     Sp,
     Junctions,
@@ -31,7 +31,7 @@ pub enum Want {
 }
 
 // Why a text is refused, with the numbers that its words tell: what `p` says first, then what is here.
-#[derive(Drop)]
+#[derive(Clone, Copy)]
 pub enum Cause {
     TooLong,
     NoProblem,
@@ -67,21 +67,21 @@ pub enum Cause {
 }
 
 // A cause, and the word of the line that it speaks of, counted from 1; 0 for none.
-#[derive(Drop)]
+#[derive(Clone, Copy)]
 pub struct Fault {
     pub cause: Cause,
     pub word: usize,
 }
 
 // Whether a line's words are what its form asks for.
-#[derive(Drop)]
+#[derive(Clone, Copy)]
 pub enum Formed {
     Right,
     Off(Fault),
 }
 
 // The form that a line's first word names.
-#[derive(Drop)]
+#[derive(Clone, Copy)]
 pub enum Lettered {
     Of(Form),
     Unknown,

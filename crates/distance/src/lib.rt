@@ -14,7 +14,7 @@ use lists::row_costs;
 use rules::{Cost, Direction, NONE, Position, wide};
 
 // The distance, or the number for none, and the meeting position.
-#[derive(Drop)]
+#[derive(Clone, Copy)]
 pub struct Meeting {
     pub sum: u64,
     pub at: Position,

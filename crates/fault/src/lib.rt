@@ -16,7 +16,7 @@ use rules::{BuildAnswer, FillAnswer, Refusal, wide};
 use text::{Line, part_end, read_line};
 
 // The line that is looked for: one of a number, that of `p`, that of an arc or of an order entry.
-#[derive(Drop)]
+#[derive(Clone, Copy)]
 pub enum Sought {
     Line(usize),
     Problem,
@@ -25,7 +25,7 @@ pub enum Sought {
 }
 
 // A line found: its number, where it begins and ends, and what the lines before it say.
-#[derive(Drop)]
+#[derive(Clone, Copy)]
 pub struct Spot {
     pub line: usize,
     pub at: usize,
@@ -34,7 +34,7 @@ pub struct Spot {
 }
 
 // What is wrong with a text: nothing, or a line, the refusal's number and the cause.
-#[derive(Drop)]
+#[derive(Clone, Copy)]
 pub enum Verdict {
     Keeps,
     Wrong(usize, u32, Fault),

@@ -16,7 +16,7 @@ use lists::position_of;
 use rules::{Junction, Position, wide, wide16};
 
 // The positions of an arc's ends, the lower and the higher.
-#[derive(Drop)]
+#[derive(Clone, Copy)]
 struct Ends {
     low: Position,
     high: Position,

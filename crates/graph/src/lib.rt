@@ -16,7 +16,7 @@ use lists::fill;
 use rules::{Position, wide};
 
 // What writing rows answers: the next free place of row_heads, or that the room is full.
-#[derive(Drop)]
+#[derive(Clone, Copy)]
 pub enum Room {
     Next(usize),
     Full,

@@ -11,7 +11,7 @@ use show::{show, tell};
 const MOST: [u32; 11] = [1024, 1024, 1024, 1024, 256, 257, 258, 4096, 4096, 4096, 64];
 
 // What the input says next: a number, or none that fits.
-#[derive(Drop)]
+#[derive(Clone, Copy)]
 enum Number {
     Is(u32),
     Not,

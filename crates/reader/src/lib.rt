@@ -10,7 +10,7 @@ use rules::{Cost, Junction, wide};
 use text::{Cursor, Line, part_end, read_line};
 
 // What has been read: whether the `p` line was, the counts it gave, and how many arcs, order entries and questions came since.
-#[derive(Drop)]
+#[derive(Clone, Copy)]
 pub struct State {
     pub started: bool,
     pub junctions: usize,
@@ -37,7 +37,7 @@ impl State {
 }
 
 // What has been read with one line more, or that the line may not stand there.
-#[derive(Drop)]
+#[derive(Clone, Copy)]
 pub enum Step {
     Next(State),
     Unfit,
@@ -184,7 +184,7 @@ fn store(
 }
 
 // What has been read after the next line with the cursor behind it, or that the line breaks the rules.
-#[derive(Drop)]
+#[derive(Clone, Copy)]
 pub enum Onward {
     To(State, Cursor),
     Stopped,
@@ -217,7 +217,7 @@ fn next_line(
 }
 
 // How many junctions, arcs and questions the lists now hold.
-#[derive(Drop)]
+#[derive(Clone, Copy)]
 pub struct Counts {
     pub junctions: usize,
     pub arcs: usize,
@@ -225,7 +225,7 @@ pub struct Counts {
 }
 
 // What reading comes to: the text, or the line that breaks its rules, 0 for too long an input.
-#[derive(Drop)]
+#[derive(Clone, Copy)]
 pub enum Reading {
     Text(Counts),
     Breaks(usize),

@@ -10,13 +10,13 @@ ghost use Rattle.text.specs.ReadBack.{PartEnd, is_called, letter_said, sp_said, 
 use rules::{Cost, Junction};
 
 // Where reading goes on in a line: past its end when no word is left.
-#[derive(Drop)]
+#[derive(Clone, Copy)]
 pub struct Cursor {
     pub at: usize,
 }
 
 // What a word is read as: a letter that names a kind of line, the word `sp`, a number, a junction or a cost.
-#[derive(Drop)]
+#[derive(Clone, Copy)]
 pub enum Kind {
     Letter,
     Sp,
@@ -26,21 +26,21 @@ pub enum Kind {
 }
 
 // What a word says, or that it is no word of that kind.
-#[derive(Drop)]
+#[derive(Clone, Copy)]
 pub enum Value {
     Is(u32),
     Not,
 }
 
 // What the next word says with the cursor past it, or that no word of that kind comes next.
-#[derive(Drop)]
+#[derive(Clone, Copy)]
 pub enum Taken {
     Word(u32, Cursor),
     Nothing,
 }
 
 // What a line says; junctions are counted from 0.
-#[derive(Drop)]
+#[derive(Clone, Copy)]
 pub enum Line {
     Comment,
     Problem(u32, u32),

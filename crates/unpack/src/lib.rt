@@ -18,7 +18,7 @@ use roads::last_arc;
 use rules::{Cost, Found, Position, wide};
 
 // What opening a piece answers: the next free place of the route list, that an arc has no place left, or that a piece fits nothing.
-#[derive(Drop)]
+#[derive(Clone, Copy)]
 pub enum Opened {
     Next(usize),
     Full,
@@ -27,7 +27,7 @@ pub enum Opened {
 
 // How a piece is opened: as an arc; as its parts over a position, the edge at one place down to it and the edge at another up from it; or not
 // at all.
-#[derive(Drop)]
+#[derive(Clone, Copy)]
 enum Choice {
     Arc(usize),
     Over { z: Position, down: usize, up: usize },

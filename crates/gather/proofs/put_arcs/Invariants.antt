@@ -1,0 +1,12 @@
+-- `put_arcs` meets its contract. The loop's invariant: whatever arcs are threaded, those of p from k on have been put in; the walk ends since threads
+use lib.Dec.{eqb}
+use Rattle.gather.specs.Arcs.{Arcs, ArcThreads, with_arc}
+use Rattle.gather.proofs.Walking.{Walking}
+use Rattle.gather.proofs.put_arcs.Given as goal
+
+abbrev pub invariant-loop-k : goal.invariant-loop-k
+invariant-loop-k l =
+    (R : Arcs) → ArcThreads R l.n l.at l.next l.high → Walking (λ i. eqb (R.low i) l.p.0) (with_arc R l.p.0) l.n l.p.0 R.count l.k l.initial.after l.after
+
+abbrev pub decreases-loop-k : goal.decreases-loop-k
+decreases-loop-k l = l.k
