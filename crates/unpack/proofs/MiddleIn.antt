@@ -3,11 +3,8 @@
 use Prim.Native.Nat.{ℕ, zero, suc, ◌+◌, ◌-◌, ◌≤◌, ◌<◌, min}
 use mathlib.Core.Path.{◌≡◌, refl, sym, ap, ◌∙◌, subst}
 use mathlib.Core.Bool.{Bool, cond, ◌&&◌}
-use mathlib.Core.Logic.{inr, ◌≢◌}
-use mathlib.Core.List.{List, [], ◌∷◌}
-use types.Run.{OneOf}
-use denote.Enum.Declared.{tag_of}
-use Rattle.unpack.specs.contracts.Choice.{the_type}
+use mathlib.Core.Logic.{◌≢◌}
+use mathlib.Core.List.{List}
 use native.Mathlib.Omega.{arith}
 use native.Mathlib.Numerals.{add-one}
 use lib.Dec.{T, ltb}
@@ -33,10 +30,10 @@ else (Arc i) further = further
 else Neither further = further
 
 -- further on where none is
-past : (found further : Choice) → OneOf (0 ∷ 2 ∷ []) (tag_of the_type found) → else found further ≡ further
-past (Over z i j) further o = absurd (either o (λ (e : 1 ≡ 0). omega arith) (λ (e : 1 ≡ 2). omega arith))
-past (Arc i) further o = refl
-past Neither further o = refl
+past : (found further : Choice) → ((q : Position) (i j : ℕ) → found ≡ Over q i j → ⊥) → else found further ≡ further
+past (Over z i j) further n = absurd (n z i j refl)
+past (Arc i) further n = refl
+past Neither further n = refl
 
 module _ (G : Graph) (C : EdgeCosts) (a b : ℕ) where
   abbrev fits : ℕ → Bool
@@ -88,8 +85,8 @@ module _ (G : Graph) (C : EdgeCosts) (a b : ℕ) where
   scan_here z to h e o = o ∙ sym (scan_step z to h ∙ rw (← e, o) refl)
 
   -- past one that does not fit it goes on
-  pub scan_on : (z to : ℕ) {r : Choice} → z < to → r ≡ over_z G C a b z → OneOf (0 ∷ 2 ∷ []) (tag_of the_type r) → middle_in G C a b z to ≡ middle_in G C a b (z + 1) to
-  scan_on z to {r} h e o = scan_step z to h ∙ rw (← e) (past r (middle_in G C a b (z + 1) to) o)
+  pub scan_on : (z to : ℕ) {r : Choice} → z < to → r ≡ over_z G C a b z → ((q : Position) (i j : ℕ) → r ≡ Over q i j → ⊥) → middle_in G C a b z to ≡ middle_in G C a b (z + 1) to
+  scan_on z to {r} h e n = scan_step z to h ∙ rw (← e) (past r (middle_in G C a b (z + 1) to) n)
 
   -- and ends
   pub scan_end : (z to : ℕ) → to ≤ z → Neither ≡ middle_in G C a b z to
@@ -103,7 +100,7 @@ module _ (G : Graph) (C : EdgeCosts) (a b : ℕ) where
   scan_from zero to h n = refl
   scan_from (suc z) to h n =
       scan_from z to (omega arith) (λ q l. n q (omega arith))
-      ∙ scan_on z to h (misfit z (n z (omega arith))) (inr refl)
+      ∙ scan_on z to h (misfit z (n z (omega arith))) (λ q i j e. cc)
       ∙ ap (λ q. middle_in G C a b q to) (add-one z)
 
   -- so it may start at the lowest lower neighbour of the low end, to which each z that fits is joined

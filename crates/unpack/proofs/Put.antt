@@ -4,8 +4,6 @@ use mathlib.Core.Path.{◌≡◌, refl, sym, ap, ◌∙◌}
 use mathlib.Core.Bool.{true, false}
 use mathlib.Core.List.{List, [], ◌∷◌, ◌++◌}
 use native.Mathlib.Omega.{arith}
-use types.Run.{OneOf}
-use denote.Enum.Declared.{tag_of}
 use lib.Dec.{ltb}
 use lib.ListN.{length, set}
 use borrow.Author.Tests.{lt-ltb, le-ltb}
@@ -14,7 +12,6 @@ use Rattle.theory.proofs.Words.{either, split}
 use Rattle.unpack.specs.declared.Opened.{Opened}
 use Rattle.unpack.specs.declared.Opened.TheVariants.{Next, Full, Misfit}
 use Rattle.unpack.specs.Opening.{ran, put}
-use Rattle.unpack.specs.contracts.Opened.{the_type}
 
 -- ---- one arc
 
@@ -42,10 +39,10 @@ Stops Full = Unit {0}
 Stops Misfit = Unit {0}
 
 -- every answer but the next free place
-pub stops_e : (answer : Opened) → OneOf (1 ∷ 2 ∷ []) (tag_of the_type answer) → Stops answer
-stops_e (Next at) o = either o (λ (e : 0 ≡ 1). omega arith) (λ (e : 0 ≡ 2). omega arith)
-stops_e Full o = tt
-stops_e Misfit o = tt
+pub stops_e : (answer : Opened) → ((free : ℕ) → answer ≡ Next free → ⊥) → Stops answer
+stops_e (Next at) n = n at refl
+stops_e Full n = tt
+stops_e Misfit n = tt
 
 -- no event, nothing written
 pub put_nil : (at : ℕ) (route : List ℕ) → put [] at route ≡ ran (Next at) route

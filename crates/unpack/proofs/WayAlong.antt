@@ -5,8 +5,6 @@ use mathlib.Core.Path.{◌≡◌, refl, sym, ◌∙◌}
 use mathlib.Core.Bool.{Bool, true, false}
 use mathlib.Core.List.{List, [], ◌∷◌, ◌++◌}
 use native.Mathlib.Omega.{arith}
-use types.Run.{OneOf}
-use denote.Enum.Declared.{tag_of}
 use lib.Dec.{T, ltb}
 use lib.ListN.{get_or}
 use borrow.Author.Tests.{ltb-true, ltb-false}
@@ -26,7 +24,6 @@ use Rattle.unpack.specs.declared.Opened.TheVariants.{Next}
 use Rattle.unpack.specs.declared.Choice.{Choice}
 use Rattle.unpack.specs.declared.Choice.TheVariants.{Arc, Over, Neither}
 use Rattle.unpack.specs.Opening.{ran, put, way_along, over, middle_in, arc_of, arc_or, choice, Readable, Ready}
-use Rattle.unpack.specs.contracts.Opened.{the_type}
 use Rattle.unpack.proofs.Put.{put_on, put_stop, stops_e}
 use Rattle.unpack.proofs.Edge.{Edge, edge_of, place_in}
 use Rattle.unpack.proofs.MiddleIn.{fits_joined}
@@ -37,12 +34,6 @@ use Rattle.unpack.proofs.MiddleIn.{fits_joined}
 pub piece_edge : {heads costs order arc_at arc_next low : List ℕ} {G : Graph} {C : EdgeCosts} {x k : ℕ}
     → Ready heads costs order G C arc_at arc_next low × (x < count G.first) × InRow G x k → Edge G C x (get_or G.heads k 0) k
 piece_edge {G = G} {x = x} {k = k} (R, l, r) = edge_of R.lists x (get_or G.heads k 0) k l r refl
-
--- and one of its parts, whose low end is lower
-pub part_of : {heads costs order arc_at arc_next low : List ℕ} {G : Graph} {C : EdgeCosts} {t x k z l : ℕ}
-    → (x ≡ t) × (Ready heads costs order G C arc_at arc_next low × (x < count G.first) × InRow G x k) → z < x → InRow G z l
-    → (z < t) × (Ready heads costs order G C arc_at arc_next low × (z < count G.first) × InRow G z l)
-part_of (e, (R, h, q)) l r = (omega arith, (R, omega arith, r))
 
 -- between the ends of an edge the arc in force can be looked for
 pub readable : {heads costs order arc_at arc_next low : List ℕ} {G : Graph} {C : EdgeCosts} → Ready heads costs order G C arc_at arc_next low
@@ -112,9 +103,9 @@ module _ {n : ℕ} {G : Graph} (R : Rows n G) (N : Net) (C : EdgeCosts) (a b : �
   module _ {piece : Choice} (is : piece ≡ choice N G C a b) {z : Position} {i j : ℕ} (e : piece ≡ Over z i j) (at : ℕ) (before : List ℕ)
       {answer : Opened} {between : List ℕ} (first : ran answer between ≡ put (way_along N G C (get_or G.heads i 0) z.0) at before) where
     -- a first part that stops
-    pub by_first : OneOf (1 ∷ 2 ∷ []) (tag_of the_type answer) → ran answer between ≡ put (way_along N G C a b) at before
-    by_first o =
-        put_stop _ (way_along N G C z.0 (get_or G.heads j 0)) at before answer between (stops_e answer o) first ∙ met_by is e at before
+    pub by_first : ((free : ℕ) → answer ≡ Next free → ⊥) → ran answer between ≡ put (way_along N G C a b) at before
+    by_first n =
+        put_stop _ (way_along N G C z.0 (get_or G.heads j 0)) at before answer between (stops_e answer n) first ∙ met_by is e at before
 
     -- both parts, one after the other
     pub by_both : {free : ℕ} {last : Opened} {after : List ℕ} → answer ≡ Next free
