@@ -12,11 +12,11 @@ use Rattle.rules.specs.declared.Direction.TheVariants.{Up, Down}
 use Rattle.rules.specs.declared.Found.TheVariants.{At, Nothing}
 use Rattle.rules.specs.Net.{Net, size, arcs, tail, head, arc_cost, junction}
 use Rattle.rules.specs.Graph.{Graph}
-use Rattle.rules.specs.Hierarchy.{EdgeCosts, edge_costs, along, linked, place}
+use Rattle.rules.specs.Hierarchy.{EdgeCosts, along, linked, place}
 use Rattle.theory.specs.Rows.{InRow, Rows, Lists, count}
 use Rattle.theory.specs.Accepted.{Accepted}
 use Rattle.theory.proofs.Words.{either, split, same_or_not}
-use Rattle.theory.proofs.Rows.{count_is, in_heads, row_of_lem, once, linked_e, linked_low, linked_turn, place_is}
+use Rattle.theory.proofs.Rows.{in_heads, row_of_lem, once, linked_e, linked_low, linked_turn, place_is}
 use Rattle.theory.proofs.LastArc.{last_between, last_hit, last_miss}
 use Rattle.lists.specs.Lent.{edge_found, chosen}
 use Rattle.lists.proofs.Found.{edge_at, edge_nowhere}
@@ -26,7 +26,7 @@ use Rattle.turns.proofs.Stored.{stored}
 -- ---- one list
 
 -- where x is not below y nothing is laid
-laid_none : (G : Graph) (list : List ℕ) (x y v : ℕ) → y ≤ x → list ≡ laid_on G list x y v
+pub laid_none : (G : Graph) (list : List ℕ) (x y v : ℕ) → y ≤ x → list ≡ laid_on G list x y v
 unfolding laid_on
 laid_none G list x y v l = rw (le-ltb x y l) refl
 
@@ -35,21 +35,21 @@ laid_set : (G : Graph) (list : List ℕ) (x y k v : ℕ) → x < y → k ≡ pla
 unfolding laid_on
 laid_set G list x y k v l e = rw (lt-ltb x y l, ← e) refl
 
-module _ {G : Graph} {room x y : ℕ} (E : Edge G room x y) where
-  -- where the search finds no edge nothing is laid
-  pub edge_none : (list : List ℕ) (v : ℕ) → edge_found G x y ≡ Nothing → list ≡ laid_on G list x y v
-  edge_none list v e =
-      either (split (ltb x y))
-      (λ s. let l = ltb-true x y s in absurd (edge_nowhere E.rows x y l e (E.joined l)))
-      (λ s. laid_none G list x y v (ltb-false x y s))
+module _ {G : Graph} {room x y : ℕ} (E : Edge G room x y) (l : x < y) where
+  -- the edge's row is one of the rows
+  pub edge_low : x < count G.first
+  edge_low = linked_low E.rows x y (E.joined l)
 
-  -- where it finds one the cost is laid at its place
+  -- the search finds the edge
+  pub edge_some : edge_found G x y ≡ Nothing → ⊥
+  edge_some e = edge_nowhere E.rows x y l e (E.joined l)
+
+  -- at its place
   pub edge_laid : (list : List ℕ) (k v : ℕ) → edge_found G x y ≡ At k → (k < room) × (set list k v ≡ laid_on G list x y v)
   edge_laid list k v e =
-      let (r, h) = edge_at E.rows x y k E.low_in e in
-      let l : x < y = omega (arith, E.rows.above x k E.low_in r) in (
-        omega (arith, (in_heads E.rows x k E.low_in r).0, E.fits),
-        laid_set G list x y k v l (sym (place_is E.rows x k y E.low_in r h)),
+      let (r, h) = edge_at E.rows x y k edge_low e in (
+        omega (arith, (in_heads E.rows x k edge_low r).0, E.fits),
+        laid_set G list x y k v l (sym (place_is E.rows x k y edge_low r h)),
       )
 
 -- ---- one arc, by the positions of its ends
@@ -59,19 +59,9 @@ pub arc_edges : {rank : List ℕ} {G : Graph} {t h : ℕ} {C : EdgeCosts} {x y :
     → Edge G (length C.up) x y × Edge G (length C.down) y x
 arc_edges {rank} {G} {x = x} {y} ex ey L F =
     let joined : x ≢ y → T (linked G x y) = λ n. rw (ex, ey) (F.joined (λ e. n (ex ∙ ap (λ j. get_or rank j 0) e ∙ sym ey))) in (
-      record { rows = L.rows; fits = L.up_long; low_in = omega (arith, F.tail_at); joined = λ l. joined (λ e. omega arith) },
-      record { rows = L.rows; fits = L.down_long; low_in = omega (arith, F.head_at); joined = λ l. linked_turn G x y (joined (λ e. omega arith)) },
+      record { rows = L.rows; fits = L.up_long; joined = λ l. joined (λ e. omega arith) },
+      record { rows = L.rows; fits = L.down_long; joined = λ l. linked_turn G x y (joined (λ e. omega arith)) },
     )
-
--- where it rises the up list alone changes
-pub laid_rising : (rank : List ℕ) (G : Graph) (t h v : ℕ) (up down : List ℕ) {x y : ℕ} {up' : List ℕ} → x ≡ get_or rank t 0 → y ≡ get_or rank h 0 → x < y
-    → up' ≡ laid_on G up x y v → edge_costs up' down ≡ laid rank G t h v (edge_costs up down)
-laid_rising rank G t h v up down {x} {y} ex ey l e = rw (e, ← ex, ← ey) (ap (edge_costs (laid_on G up x y v)) (laid_none G down y x v (omega arith)))
-
--- where it does not, the down list alone
-pub laid_falling : (rank : List ℕ) (G : Graph) (t h v : ℕ) (up down : List ℕ) {x y : ℕ} {down' : List ℕ} → x ≡ get_or rank t 0 → y ≡ get_or rank h 0 → y ≤ x
-    → down' ≡ laid_on G down y x v → edge_costs up down' ≡ laid rank G t h v (edge_costs up down)
-laid_falling rank G t h v up down {x} {y} ex ey l e = rw (e, ← ex, ← ey) (ap (λ u. edge_costs u (laid_on G down y x v)) (laid_none G up x y v l))
 
 -- ---- one arc more
 
@@ -90,14 +80,7 @@ module _ {N : Net} {rank : List ℕ} {G : Graph} {room : EdgeCosts} (A : Accepte
   pub arc_fits : ArcFits rank G (tail N m) (head N m)
   arc_fits =
       let (a, b) = A.ends_in m l in
-      let c = count_is R in
-      record {
-        tail_in = omega (arith, A.ranks.long);
-        head_in = omega (arith, A.ranks.long);
-        tail_at = omega (arith, c, A.ranks.position (tail N m) a);
-        head_at = omega (arith, c, A.ranks.position (head N m) b);
-        joined = A.edges m l;
-      }
+      record { tail_in = omega (arith, A.ranks.long); head_in = omega (arith, A.ranks.long); joined = A.edges m l }
 
   -- between its ends it is the last arc so far
   arc_hit : last_between N (m + 1) t h ≡ arc_cost N m
@@ -127,7 +110,7 @@ module _ {N : Net} {rank : List ℕ} {G : Graph} {room : EdgeCosts} (A : Accepte
       let xn : x < size N = linked_low R x y (E.joined xy) in
       let (k, rk, ek) = linked_e R x y (E.joined xy) xy in
       let k_e = (in_heads R x k xn rk).0 in
-      let kr : k < length list = omega (arith, (in_heads E.rows x k E.low_in rk).0, E.fits) in
+      let kr : k < length list = omega (arith, (in_heads E.rows x k (edge_low E xy) rk).0, E.fits) in
       let S = stored list list' k v (e ∙ sym (laid_set G list x y k v xy (sym (place_is R x k y xn rk ek)))) kr in
       record {
         long = S.long;

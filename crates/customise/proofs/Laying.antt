@@ -93,9 +93,8 @@ module _ {N : Net} {rank : List ℕ} {G : Graph} {C₀ : EdgeCosts} (A : Accepte
   laying_lists S = lists_same S.fits S.lists.up_long S.lists.down_long
 
   -- what laying the next arc asks
-  pub laying_fits : {room : EdgeCosts} {m : ℕ} {C : EdgeCosts} → Laying N G room m C → m < arcs N
-      → Lists G C × (m < length N.tails) × (m < length N.heads) × (m < length N.costs) × ArcFits rank G (tail N m) (head N m)
-  laying_fits {m = m} S l = (laying_lists S, l, omega (arith, A.heads_long), omega (arith, A.costs_long), arc_fits A m l)
+  pub laying_fits : {room : EdgeCosts} {m : ℕ} {C : EdgeCosts} → Laying N G room m C → m < arcs N → Lists G C × ArcFits rank G (tail N m) (head N m)
+  laying_fits {m = m} S l = (laying_lists S, arc_fits A m l)
 
   -- one arc more
   pub laying_more : {room : EdgeCosts} {m : ℕ} {C C' : EdgeCosts} → Laying N G room m C → m < arcs N → C' ≡ laid rank G (tail N m) (head N m) (arc_cost N m) C

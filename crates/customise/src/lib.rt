@@ -16,47 +16,45 @@ use lists::{fill, find_edge, position_of};
 use rules::{Cost, Found, Junction, Position, wide};
 use turns::queue_row;
 
-// The cost of arc i into the list of one direction, at the place of the edge between x and y, the lower first, if there is one.
+// The cost from x to y into the list of one direction, at the place of their edge, where x is below y.
 fn lay_cost(
     first: &[u32],
     row_heads: &[u32],
-    costs: &[u32],
     list: &mut [u32],
     x: Position,
     y: Position,
-    i: usize,
+    cost: Cost,
 )
-    requires { Edge (graph first.now row_heads.now) (length list.old) x.0 y.0 × (i < length costs.now) }
-    ensures { list.new ≡ laid_on (graph first.now row_heads.now) list.old x.0 y.0 (get_or costs.now i 0) }
+    requires { Edge (graph first.now row_heads.now) (length list.old) x.0 y.0 }
+    ensures { list.new ≡ laid_on (graph first.now row_heads.now) list.old x.0 y.0 cost.0 }
 {
+    if y.0 <= x.0 {
+        return;
+    }
     let Found::At(k) = find_edge(first, row_heads, x, y) else {
         return;
     };
-    list[k] = costs[i];
+    list[k] = cost.0;
 }
 
 // The cost of an arc onto its edge, in the arc's direction: what an earlier arc between the same ends left there is replaced.
 fn lay_arc(
-    tails: &[u32],
-    heads: &[u32],
-    costs: &[u32],
     rank: &[u32],
     first: &[u32],
     row_heads: &[u32],
     up: &mut [u32],
     down: &mut [u32],
-    i: usize,
+    tail: Junction,
+    head: Junction,
+    cost: Cost,
 )
-    requires { Lists (graph first.now row_heads.now) (edge_costs up.old down.old) × (i < length tails.now) × (i < length heads.now) × (i < length costs.now) × ArcFits rank.now (graph first.now row_heads.now) (get_or tails.now i 0) (get_or heads.now i 0) }
-    ensures { edge_costs up.new down.new ≡ laid rank.now (graph first.now row_heads.now) (get_or tails.now i 0) (get_or heads.now i 0) (get_or costs.now i 0) (edge_costs up.old down.old) }
+    requires { Lists (graph first.now row_heads.now) (edge_costs up.old down.old) × ArcFits rank.now (graph first.now row_heads.now) tail.0 head.0 }
+    ensures { edge_costs up.new down.new ≡ laid rank.now (graph first.now row_heads.now) tail.0 head.0 cost.0 (edge_costs up.old down.old) }
 {
-    let x = position_of(rank, Junction(tails[i]));
-    let y = position_of(rank, Junction(heads[i]));
-    if x.0 < y.0 {
-        lay_cost(first, row_heads, costs, up, x, y, i);
-        return;
-    }
-    lay_cost(first, row_heads, costs, down, y, x, i);
+    let x = position_of(rank, tail);
+    let y = position_of(rank, head);
+    lay_cost(first, row_heads, up, x, y, cost);
+    lay_cost(first, row_heads, down, y, x, cost);
 }
 
 // The row of x spread out: at each position that it holds, the place of the edge there; what stands at lower positions stays.
@@ -167,7 +165,16 @@ pub fn customise_costs(
     fill(down, 0, Cost::CLOSED.0);
     let mut m = 0;
     while m < tails.len() {
-        lay_arc(tails, heads, costs, rank, first, row_heads, up, down, m);
+        lay_arc(
+            rank,
+            first,
+            row_heads,
+            up,
+            down,
+            Junction(tails[m]),
+            Junction(heads[m]),
+            Cost(costs[m]),
+        );
         m += 1;
     }
     lower_all(order.len(), first, row_heads, up, down);
