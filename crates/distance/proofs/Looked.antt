@@ -12,7 +12,6 @@ use Rattle.rules.specs.Costs.{none}
 use Rattle.rules.specs.Distance.{both_labels, distance, meeting}
 use Rattle.rules.specs.Graph.{Graph}
 use Rattle.rules.specs.Hierarchy.{EdgeCosts, linked, along, held}
-use Rattle.rules.specs.Words.{lowest}
 use Rattle.rules.specs.declared.Direction.TheVariants.{Up, Down}
 use Rattle.theory.specs.Parents.{Parent, Chain, here, higher}
 use Rattle.theory.specs.Rows.{count, Rows, Lists}
