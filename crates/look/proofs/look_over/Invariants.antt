@@ -1,0 +1,12 @@
+-- `look_over` meets its contract: four places at a time, and then what is left of the row. Assumes nothing.
+use Prim.Native.Nat.{◌+◌, ◌-◌, ◌≤◌}
+use Rattle.rules.specs.Hierarchy.{edge_costs}
+use Rattle.look.specs.Looking.{Looked}
+use Rattle.look.proofs.look_over.Given as goal
+
+abbrev pub invariant-loop-j : goal.invariant-loop-j
+invariant-loop-j l =
+    (l.i + 1 ≤ l.j) × (l.j ≤ l.end) × Looked l.row_heads (edge_costs l.up l.down) l.marks l.rise.0 l.fall.0 (l.i + 1) l.j (edge_costs l.initial.ups l.initial.downs) (edge_costs l.ups l.downs) l.so_far l.seen
+
+abbrev pub decreases-loop-j : goal.decreases-loop-j
+decreases-loop-j l = l.end - l.j
