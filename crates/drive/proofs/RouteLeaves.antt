@@ -16,7 +16,7 @@ use Rattle.rules.specs.Hierarchy.{EdgeCosts, linked, held, along}
 use Rattle.rules.specs.Net.{Net, size}
 use Rattle.rules.specs.Refusals.{passes, check11}
 use Rattle.rules.specs.Replies.{no_walk}
-use Rattle.rules.specs.Route.{met}
+use Rattle.rules.specs.Route.{pieces, met}
 use Rattle.rules.specs.declared.Direction.TheVariants.{Up, Down}
 use Rattle.theory.specs.Accepted.{Accepted}
 use Rattle.theory.specs.Rows.{count}
@@ -84,6 +84,22 @@ module _ {G : Graph} {C : EdgeCosts} {s t sum at : ℕ} {came_up came_down : Lis
 
 -- ---- what is left
 
+-- what route leaves by the way from s to t, of distance d, in a room
+abbrev answered : (N : Net) (G : Graph) (C : EdgeCosts) (room s t d : ℕ) → RouteLeaves
+answered N G C room s t d = cond (eqb d none) (route_left (replicate room closed) no_walk) (driven_leaves (listed_way N G C s t) d room)
+
+-- behind the checks the lists are asked
+passed : {N : Net} {rank : List ℕ} {G : Graph} {C : EdgeCosts} {from to : ℕ} → Asked N rank G C from to → (route : List ℕ)
+    → route_leaves N rank G C from to route
+    ≡ answered N G C (length route) (get_or rank from 0) (get_or rank to 0) (listed_distance (size N) G C (get_or rank from 0) (get_or rank to 0))
+unfolding route_leaves route_checks listed_distance listed_way driven_leaves
+passed A route = rw (A.checked, A.question) refl
+
+-- the definition's way, by its pieces
+listed_over : (N : Net) (G : Graph) (C : EdgeCosts) (s t : ℕ) → listed_way N G C s t ≡ way_over N G C (pieces (size N) (linked G) (held G C) s t)
+unfolding way_over listed_way met
+listed_over N G C s t = refl
+
 module _ {N : Net} {rank : List ℕ} {G : Graph} {C : EdgeCosts} {from to : ℕ} (A : Asked N rank G C from to)
     {s t : ℕ} (s_is : s ≡ get_or rank from 0) (t_is : t ≡ get_or rank to 0) where
   size_is : count G.first ≡ size N
@@ -95,10 +111,14 @@ module _ {N : Net} {rank : List ℕ} {G : Graph} {C : EdgeCosts} {from to : ℕ}
       (omega (arith, size_is, A.roads.ranks.position from A.start), omega (arith, size_is, A.roads.ranks.position to A.target))
 
   module _ {sum at : ℕ} {came_up came_down : List ℕ} (M : MetBetween G C s t sum at came_up came_down) where
-    found : (route : List ℕ) → route_leaves N rank G C from to route
-        ≡ cond (eqb sum none) (route_left (replicate (length route) closed) no_walk) (driven_leaves (listed_way N G C s t) sum (length route))
-    unfolding route_leaves route_checks
-    found route = rw (A.checked, A.question, ← s_is, ← t_is, M.is_distance, size_is) refl
+    found : (route : List ℕ) → route_leaves N rank G C from to route ≡ answered N G C (length route) s t sum
+    found route =
+        let a = get_or rank from 0 in
+        let b = get_or rank to 0 in
+        let e : sum ≡ listed_distance (size N) G C a b =
+        M.is_distance ∙ ap (λ n. listed_distance n G C s t) size_is ∙ ap (λ u. listed_distance (size N) G C u t) s_is ∙ ap (λ v. listed_distance (size N) G C a v) t_is in
+        passed A route
+        ∙ sym (ap (λ u. answered N G C (length route) u t sum) s_is ∙ ap (λ v. answered N G C (length route) a v sum) t_is ∙ ap (answered N G C (length route) a b) e)
 
     -- "For "none": no arcs, all places filled so"
     pub route_none : (route : List ℕ) {list : List ℕ} → sum ≡ none → list ≡ filled route 0 closed → route_left list no_walk ≡ route_leaves N rank G C from to route
@@ -124,12 +144,12 @@ module _ {N : Net} {rank : List ℕ} {G : Graph} {C : EdgeCosts} {from to : ℕ}
 
         -- on which is met what the definition says
         way_is : way_over N G C (steps way start (end - start)) ≡ listed_way N G C s t
-        unfolding way_over listed_way met
         way_is =
             let m = meets M some in
-            rw (← size_is)
-            (ap (way_over N G C)
-            (steps_pieces M.up_sources M.down_sources (traced_kept U D.starts kept) D m.inside m.from_start m.from_target m.is_meeting))
+            ap (way_over N G C)
+            (steps_pieces M.up_sources M.down_sources (traced_kept U D.starts kept) D m.inside m.from_start m.from_target m.is_meeting
+            ∙ ap (λ n. pieces n (linked G) (held G C) s t) size_is)
+            ∙ sym (listed_over N G C s t)
 
         -- "then 12 and 13": what is left once it has been driven
         pub route_driven : (told : Opened) (route then : List ℕ) {left : RouteLeaves}

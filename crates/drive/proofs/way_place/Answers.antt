@@ -1,0 +1,9 @@
+-- `way_place` meets its contract. Assumes nothing.
+use mathlib.Core.Path.{refl}
+use Rattle.drive.proofs.way_place.Goals as goal
+
+pub returns-in-Up : goal.returns-in-Up
+returns-in-Up c = rw c.in-Up.is refl
+
+pub returns-in-Down : goal.returns-in-Down
+returns-in-Down c = rw c.in-Down.is refl
