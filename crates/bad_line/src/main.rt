@@ -5,7 +5,6 @@ ghost use Rattle.bad_line.specs.Room.{Room, SpanIn};
 
 use cause::{Cause, Fault, Form};
 use fault::{Verdict, find_fault};
-use libc::STDIN_FILENO;
 use streams::{Got, read_all, tell_unread, write_out};
 use text::part_end;
 
@@ -334,13 +333,13 @@ fn put_verdict(output: &mut [u8; 1024], input: &[u8]) -> usize
 }
 
 // Reads one byte more than a text may have, so that too long a text is seen.
-fn main() {
+fn main(rt: HostRuntime) {
     let mut input = [0u8; 65537];
     let mut output = [0u8; 1024];
-    let Got::Bytes(got) = read_all(STDIN_FILENO, &mut input) else {
-        tell_unread(b"bad_line");
+    let Got::Bytes(got) = read_all(&mut rt.stdin(), &mut input) else {
+        tell_unread(rt.stderr(), b"bad_line");
         return;
     };
     let size = put_verdict(&mut output, &input[..got]);
-    write_out(b"bad_line", &output[..size]);
+    write_out(rt.stdout(), rt.stderr(), b"bad_line", &output[..size]);
 }

@@ -1,8 +1,11 @@
 -- What is known of a read's answer. Assumes nothing.
-use Rattle.std.specs.Prelude.{ℕ, ◌≤◌, List}
-use Rattle.io.specs.Counts.{IsPrefixLen}
+use Rattle.std.specs.Prelude.{ℕ, ◌≤◌, ◌≡◌, List, length, take}
 use Rattle.streams.specs.declared.Got.{Got}
 use Rattle.streams.specs.declared.Got.TheVariants.{Bytes, Failed}
+
+-- the list has n numbers or more, so that its first n are n
+abbrev pub IsPrefixLen : ℕ → List ℕ → Type 0
+IsPrefixLen n xs = (n ≤ length xs) × (n ≡ length (take n xs))
 
 -- the bytes that came, if any did, are at most n
 abbrev pub Within : Got → ℕ → Type 0

@@ -2,40 +2,47 @@
 #![tactic(auto)]
 
 use griezmuld::{build, change, customise, distance, route, sweep_from, sweep_to};
-use libc::STDOUT_FILENO;
 use rules::{BuildAnswer, ChangeAnswer, Cost, DistanceAnswer, FillAnswer, Junction, RouteAnswer};
 use show::{show, tell};
 
 // One line for a build: its name, the answer, the lists.
-fn show_build(name: &[u8], answer: BuildAnswer, rank: &[u32], first: &[u32], heads: &[u32]) {
-    tell(name, answer.number() as u64);
-    tell(b" at", answer.place() as u64);
-    tell(b", edges", answer.edges() as u64);
-    show(b", rank", rank);
-    show(b", first", first);
-    show(b", heads", heads);
-    io::write_all(STDOUT_FILENO, b"\n");
+fn show_build(
+    rt: &impl Print,
+    name: &[u8],
+    answer: BuildAnswer,
+    rank: &[u32],
+    first: &[u32],
+    heads: &[u32],
+) {
+    tell(rt, name, answer.number() as u64);
+    tell(rt, b" at", answer.place() as u64);
+    tell(rt, b", edges", answer.edges() as u64);
+    show(rt, b", rank", rank);
+    show(rt, b", first", first);
+    show(rt, b", heads", heads);
+    let _ = rt.write_all(b"\n");
 }
 
 // One line for a customising: its name, the answer, the lists.
-fn show_customise(name: &[u8], answer: FillAnswer, up: &[u32], down: &[u32]) {
-    tell(name, answer.number() as u64);
-    tell(b" at", answer.place() as u64);
-    show(b", up", up);
-    show(b", down", down);
-    io::write_all(STDOUT_FILENO, b"\n");
+fn show_customise(rt: &impl Print, name: &[u8], answer: FillAnswer, up: &[u32], down: &[u32]) {
+    tell(rt, name, answer.number() as u64);
+    tell(rt, b" at", answer.place() as u64);
+    show(rt, b", up", up);
+    show(rt, b", down", down);
+    let _ = rt.write_all(b"\n");
 }
 
 // One line for a distance: its name and the answer.
-fn show_distance(name: &[u8], answer: DistanceAnswer) {
-    tell(name, answer.number() as u64);
-    tell(b" at", answer.place() as u64);
-    tell(b", distance", answer.distance());
-    io::write_all(STDOUT_FILENO, b"\n");
+fn show_distance(rt: &impl Print, name: &[u8], answer: DistanceAnswer) {
+    tell(rt, name, answer.number() as u64);
+    tell(rt, b" at", answer.place() as u64);
+    tell(rt, b", distance", answer.distance());
+    let _ = rt.write_all(b"\n");
 }
 
 // Builds, and shows what is left.
 fn try_build(
+    rt: &impl Print,
     name: &[u8],
     tails: &[u32],
     ends: &[u32],
@@ -45,15 +52,16 @@ fn try_build(
     heads: &mut [u32],
 ) {
     let answer = build(tails, ends, order, rank, first, heads);
-    show_build(name, answer, rank, first, heads);
+    show_build(rt, name, answer, rank, first, heads);
 }
 
 // "n = 1, no arcs: first 0 0, E = 0, accepted. n = 0: 1. n = 4,097: 1."
-fn sizes() {
+fn sizes(rt: &impl Print) {
     let none = [0u32; 0];
     let one = [0u32; 1];
     let many = [0u32; 4097];
     try_build(
+        rt,
         b"n = 1:",
         &none,
         &none,
@@ -63,6 +71,7 @@ fn sizes() {
         &mut [9; 1],
     );
     try_build(
+        rt,
         b"n = 0:",
         &none,
         &none,
@@ -72,6 +81,7 @@ fn sizes() {
         &mut [9; 1],
     );
     try_build(
+        rt,
         b"n = 4097:",
         &none,
         &none,
@@ -83,11 +93,12 @@ fn sizes() {
 }
 
 // N4 built into rooms for six, five and four heads: "Heads room 4 for N4: 6".
-fn n4_build() {
+fn n4_build(rt: &impl Print) {
     let tails = [1u32, 0, 2, 3, 1];
     let ends = [0u32, 2, 3, 1, 3];
     let order = [0u32, 1, 2, 3];
     try_build(
+        rt,
         b"N4, room 6:",
         &tails,
         &ends,
@@ -97,6 +108,7 @@ fn n4_build() {
         &mut [9; 6],
     );
     try_build(
+        rt,
         b"N4, room 5:",
         &tails,
         &ends,
@@ -106,6 +118,7 @@ fn n4_build() {
         &mut [9; 5],
     );
     try_build(
+        rt,
         b"N4, room 4:",
         &tails,
         &ends,
@@ -117,10 +130,11 @@ fn n4_build() {
 }
 
 // P10's star, its centre first and last: E is 6, then 3.
-fn star() {
+fn star(rt: &impl Print) {
     let tails = [0u32; 3];
     let ends = [1u32, 2, 3];
     try_build(
+        rt,
         b"star, 0 first:",
         &tails,
         &ends,
@@ -130,6 +144,7 @@ fn star() {
         &mut [9; 6],
     );
     try_build(
+        rt,
         b"star, 0 last:",
         &tails,
         &ends,
@@ -141,9 +156,10 @@ fn star() {
 }
 
 // Bad arcs and orders: 2, 3 with its arc, 4 with its position, 5.
-fn bad_lists() {
+fn bad_lists(rt: &impl Print) {
     let order = [1u32, 0, 1];
     try_build(
+        rt,
         b"uneven arcs:",
         &[0],
         &[1, 3],
@@ -153,6 +169,7 @@ fn bad_lists() {
         &mut [9; 3],
     );
     try_build(
+        rt,
         b"arc 1 past n:",
         &[0, 1],
         &[1, 3],
@@ -162,6 +179,7 @@ fn bad_lists() {
         &mut [9; 3],
     );
     try_build(
+        rt,
         b"junction 1 twice:",
         &[0],
         &[1],
@@ -171,6 +189,7 @@ fn bad_lists() {
         &mut [9; 3],
     );
     try_build(
+        rt,
         b"rank room 3 of 2:",
         &[0],
         &[1],
@@ -182,7 +201,7 @@ fn bad_lists() {
 }
 
 // Customises one arc, 0 to 1, of a cost, and shows what is left.
-fn try_cost(name: &[u8], cost: &[u32], up: &mut [u32], down: &mut [u32]) {
+fn try_cost(rt: &impl Print, name: &[u8], cost: &[u32], up: &mut [u32], down: &mut [u32]) {
     let answer = customise(
         &[0],
         &[1],
@@ -194,19 +213,19 @@ fn try_cost(name: &[u8], cost: &[u32], up: &mut [u32], down: &mut [u32]) {
         up,
         down,
     );
-    show_customise(name, answer, up, down);
+    show_customise(rt, name, answer, up, down);
 }
 
 // "Cost 500,000 accepted, 500,001: 9, 0: 9", and CLOSED accepted.
-fn costs() {
-    try_cost(b"cost 500001:", &[500001], &mut [9; 2], &mut [9; 1]);
-    try_cost(b"cost 0:", &[0], &mut [9; 2], &mut [9; 1]);
-    try_cost(b"cost 500000:", &[500000], &mut [9; 2], &mut [9; 1]);
-    try_cost(b"cost CLOSED:", &[4294967295], &mut [9; 2], &mut [9; 1]);
+fn costs(rt: &impl Print) {
+    try_cost(rt, b"cost 500001:", &[500001], &mut [9; 2], &mut [9; 1]);
+    try_cost(rt, b"cost 0:", &[0], &mut [9; 2], &mut [9; 1]);
+    try_cost(rt, b"cost 500000:", &[500000], &mut [9; 2], &mut [9; 1]);
+    try_cost(rt, b"cost CLOSED:", &[4294967295], &mut [9; 2], &mut [9; 1]);
 }
 
 // N4 customised: P2, and CLOSED past E.
-fn n4_costs(up: &mut [u32], down: &mut [u32]) {
+fn n4_costs(rt: &impl Print, up: &mut [u32], down: &mut [u32]) {
     let order = [0u32, 1, 2, 3];
     let costs = [3u32, 4, 2, 6, 20];
     let answer = customise(
@@ -220,17 +239,18 @@ fn n4_costs(up: &mut [u32], down: &mut [u32]) {
         up,
         down,
     );
-    show_customise(b"N4:", answer, up, down);
+    show_customise(rt, b"N4:", answer, up, down);
 }
 
 // Asks N4, by P2's lists.
-fn ask_n4(name: &[u8], from: u32, to: u32) {
+fn ask_n4(rt: &impl Print, name: &[u8], from: u32, to: u32) {
     let order = [0u32, 1, 2, 3];
     let first = [0u32, 2, 4, 5, 5];
     let heads = [1u32, 2, 2, 3, 3];
     let up = [4294967295u32, 4, 7, 20, 2];
     let down = [3u32, 4294967295, 4294967295, 6, 13];
     show_distance(
+        rt,
         name,
         distance(
             &order,
@@ -246,24 +266,31 @@ fn ask_n4(name: &[u8], from: u32, to: u32) {
 }
 
 // P3 to P6, and an end past n.
-fn n4_distances() {
-    ask_n4(b"1 to 3:", 1, 3);
-    ask_n4(b"0 to 1:", 0, 1);
-    ask_n4(b"2 to 0:", 2, 0);
-    ask_n4(b"0 to 0:", 0, 0);
-    ask_n4(b"0 to 4:", 0, 4);
+fn n4_distances(rt: &impl Print) {
+    ask_n4(rt, b"1 to 3:", 1, 3);
+    ask_n4(rt, b"0 to 1:", 0, 1);
+    ask_n4(rt, b"2 to 0:", 2, 0);
+    ask_n4(rt, b"0 to 0:", 0, 0);
+    ask_n4(rt, b"0 to 4:", 0, 4);
 }
 
 // One line for a sweep: its name, the answer, the list.
-fn show_sweep(name: &[u8], answer: FillAnswer, distances: &[u32]) {
-    tell(name, answer.number() as u64);
-    tell(b" at", answer.place() as u64);
-    show(b", distances", distances);
-    io::write_all(STDOUT_FILENO, b"\n");
+fn show_sweep(rt: &impl Print, name: &[u8], answer: FillAnswer, distances: &[u32]) {
+    tell(rt, name, answer.number() as u64);
+    tell(rt, b" at", answer.place() as u64);
+    show(rt, b", distances", distances);
+    let _ = rt.write_all(b"\n");
 }
 
 // Sweeps N4 from a junction and to it, with a cost up from 2 to 3, by P2's other lists.
-fn sweep_n4(name: &[u8], up_2_3: u32, j: u32, there: &mut [u32], back: &mut [u32]) {
+fn sweep_n4(
+    rt: &impl Print,
+    name: &[u8],
+    up_2_3: u32,
+    j: u32,
+    there: &mut [u32],
+    back: &mut [u32],
+) {
     let order = [0u32, 1, 2, 3];
     let first = [0u32, 2, 4, 5, 5];
     let heads = [1u32, 2, 2, 3, 3];
@@ -279,8 +306,8 @@ fn sweep_n4(name: &[u8], up_2_3: u32, j: u32, there: &mut [u32], back: &mut [u32
         Junction(j),
         there,
     );
-    io::write_all(STDOUT_FILENO, name);
-    show_sweep(b", from:", out, there);
+    let _ = rt.write_all(name);
+    show_sweep(rt, b", from:", out, there);
     let home = sweep_to(
         &order,
         &order,
@@ -291,23 +318,44 @@ fn sweep_n4(name: &[u8], up_2_3: u32, j: u32, there: &mut [u32], back: &mut [u32
         Junction(j),
         back,
     );
-    io::write_all(STDOUT_FILENO, name);
-    show_sweep(b", to:", home, back);
+    let _ = rt.write_all(name);
+    show_sweep(rt, b", to:", home, back);
 }
 
 // P3 to P7 in the lists of their starts and targets; then 11, and 15 for a list shorter or longer than n.
-fn n4_sweeps() {
+fn n4_sweeps(rt: &impl Print) {
     let shut = 4294967295;
-    sweep_n4(b"dairy 0", 2, 0, &mut [9; 4], &mut [9; 4]);
-    sweep_n4(b"dairy 1", 2, 1, &mut [9; 4], &mut [9; 4]);
-    sweep_n4(b"arc 2 CLOSED, dairy 0", shut, 0, &mut [9; 4], &mut [9; 4]);
-    sweep_n4(b"arc 2 CLOSED, dairy 1", shut, 1, &mut [9; 4], &mut [9; 4]);
-    sweep_n4(b"dairy 4, lists 3 and 5", 2, 4, &mut [9; 3], &mut [9; 5]);
-    sweep_n4(b"lists 3 and 5", 2, 0, &mut [9; 3], &mut [9; 5]);
+    sweep_n4(rt, b"dairy 0", 2, 0, &mut [9; 4], &mut [9; 4]);
+    sweep_n4(rt, b"dairy 1", 2, 1, &mut [9; 4], &mut [9; 4]);
+    sweep_n4(
+        rt,
+        b"arc 2 CLOSED, dairy 0",
+        shut,
+        0,
+        &mut [9; 4],
+        &mut [9; 4],
+    );
+    sweep_n4(
+        rt,
+        b"arc 2 CLOSED, dairy 1",
+        shut,
+        1,
+        &mut [9; 4],
+        &mut [9; 4],
+    );
+    sweep_n4(
+        rt,
+        b"dairy 4, lists 3 and 5",
+        2,
+        4,
+        &mut [9; 3],
+        &mut [9; 5],
+    );
+    sweep_n4(rt, b"lists 3 and 5", 2, 0, &mut [9; 3], &mut [9; 5]);
 }
 
 // Junctions 2, 0 and 1 in a row, in that order: 1 is too far from 2 once the second edge costs anything, and 16 names junction 1, at position 2.
-fn row_sweep(name: &[u8], second: u32, list: &mut [u32]) {
+fn row_sweep(rt: &impl Print, name: &[u8], second: u32, list: &mut [u32]) {
     let order = [2u32, 0, 1];
     let rank = [1u32, 2, 0];
     let first = [0u32, 1, 2, 2];
@@ -315,31 +363,39 @@ fn row_sweep(name: &[u8], second: u32, list: &mut [u32]) {
     let up = [4294967294u32, second];
     let down = [4294967295u32; 2];
     let answer = sweep_from(&order, &rank, &first, &heads, &up, &down, Junction(2), list);
-    show_sweep(name, answer, list);
+    show_sweep(rt, name, answer, list);
 }
 
 // "16 for the lowest junction whose distance isn't below CLOSED .. after 16 the list is all CLOSED", and 15 before it.
-fn far_sweeps() {
-    row_sweep(b"row, second edge 0:", 0, &mut [9; 3]);
-    row_sweep(b"row, second edge 1:", 1, &mut [9; 3]);
-    row_sweep(b"row, second edge 4294967294:", 4294967294, &mut [9; 3]);
-    row_sweep(b"row, second edge CLOSED:", 4294967295, &mut [9; 3]);
-    row_sweep(b"row, second edge 1, list 4:", 1, &mut [9; 4]);
+fn far_sweeps(rt: &impl Print) {
+    row_sweep(rt, b"row, second edge 0:", 0, &mut [9; 3]);
+    row_sweep(rt, b"row, second edge 1:", 1, &mut [9; 3]);
+    row_sweep(rt, b"row, second edge 4294967294:", 4294967294, &mut [9; 3]);
+    row_sweep(rt, b"row, second edge CLOSED:", 4294967295, &mut [9; 3]);
+    row_sweep(rt, b"row, second edge 1, list 4:", 1, &mut [9; 4]);
 }
 
 // One line for a change: its name, the answer, the lists.
-fn show_change(name: &[u8], answer: ChangeAnswer, costs: &[u32], up: &[u32], down: &[u32]) {
-    tell(name, answer.number() as u64);
-    tell(b" at", answer.place() as u64);
-    tell(b", triangles", answer.triangles());
-    show(b", costs", costs);
-    show(b", up", up);
-    show(b", down", down);
-    io::write_all(STDOUT_FILENO, b"\n");
+fn show_change(
+    rt: &impl Print,
+    name: &[u8],
+    answer: ChangeAnswer,
+    costs: &[u32],
+    up: &[u32],
+    down: &[u32],
+) {
+    tell(rt, name, answer.number() as u64);
+    tell(rt, b" at", answer.place() as u64);
+    tell(rt, b", triangles", answer.triangles());
+    show(rt, b", costs", costs);
+    show(rt, b", up", up);
+    show(rt, b", down", down);
+    let _ = rt.write_all(b"\n");
 }
 
 // Gives an arc another cost, on N4's graph with these arcs, and shows what is left.
 fn try_change(
+    rt: &impl Print,
     name: &[u8],
     tails: &[u32],
     ends: &[u32],
@@ -363,11 +419,12 @@ fn try_change(
         arc,
         Cost(cost),
     );
-    show_change(name, answer, costs, up, down);
+    show_change(rt, name, answer, costs, up, down);
 }
 
 // The same with N4's arcs.
 fn change_n4(
+    rt: &impl Print,
     name: &[u8],
     arc: usize,
     cost: u32,
@@ -377,32 +434,33 @@ fn change_n4(
 ) {
     let tails = [1u32, 0, 2, 3, 1];
     let ends = [0u32, 2, 3, 1, 3];
-    try_change(name, &tails, &ends, costs, up, down, arc, cost);
+    try_change(rt, name, &tails, &ends, costs, up, down, arc, cost);
 }
 
 // "A driver shuts a road": arc 2 closed makes P2's costs P7's, and opened again the other way round; arc 0 is felt up to P2's entry 13. The place
 // past E is never touched.
-fn n4_changes() {
+fn n4_changes(rt: &impl Print) {
     let shut = 4294967295u32;
     let mut costs = [3u32, 4, 2, 6, 20];
     let mut up = [shut, 4, 7, 20, 2, 9];
     let mut down = [3, shut, shut, 6, 13];
-    change_n4(b"arc 2 shut:", 2, shut, &mut costs, &mut up, &mut down);
-    change_n4(b"arc 2 opened:", 2, 2, &mut costs, &mut up, &mut down);
-    change_n4(b"arc 0 at 5:", 0, 5, &mut costs, &mut up, &mut down);
-    change_n4(b"arc 0 at 3:", 0, 3, &mut costs, &mut up, &mut down);
+    change_n4(rt, b"arc 2 shut:", 2, shut, &mut costs, &mut up, &mut down);
+    change_n4(rt, b"arc 2 opened:", 2, 2, &mut costs, &mut up, &mut down);
+    change_n4(rt, b"arc 0 at 5:", 0, 5, &mut costs, &mut up, &mut down);
+    change_n4(rt, b"arc 0 at 3:", 0, 3, &mut costs, &mut up, &mut down);
 }
 
 // A cost that stays; 17, before 9; 9, with its arc: nothing changes.
-fn n4_unchanged() {
+fn n4_unchanged(rt: &impl Print) {
     let shut = 4294967295u32;
     let mut costs = [3u32, 4, 2, 6, 20];
     let mut up = [shut, 4, 7, 20, 2];
     let mut down = [3, shut, shut, 6, 13, 9];
-    change_n4(b"arc 2 at 2:", 2, 2, &mut costs, &mut up, &mut down);
-    change_n4(b"arc 5 at 0:", 5, 0, &mut costs, &mut up, &mut down);
-    change_n4(b"arc 2 at 0:", 2, 0, &mut costs, &mut up, &mut down);
+    change_n4(rt, b"arc 2 at 2:", 2, 2, &mut costs, &mut up, &mut down);
+    change_n4(rt, b"arc 5 at 0:", 5, 0, &mut costs, &mut up, &mut down);
+    change_n4(rt, b"arc 2 at 0:", 2, 0, &mut costs, &mut up, &mut down);
     change_n4(
+        rt,
         b"arc 3 at 500001:",
         3,
         500001,
@@ -413,17 +471,17 @@ fn n4_unchanged() {
 }
 
 // P8's net: arc 5 hides arc 4, so only the cost list changes; and hides it still when it is shut itself.
-fn hidden_changes(costs: &mut [u32], up: &mut [u32], down: &mut [u32]) {
+fn hidden_changes(rt: &impl Print, costs: &mut [u32], up: &mut [u32], down: &mut [u32]) {
     let tails = [1u32, 0, 2, 3, 1, 1];
     let ends = [0u32, 2, 3, 1, 3, 3];
     let shut = 4294967295;
-    try_change(b"hidden arc 4:", &tails, &ends, costs, up, down, 4, 25);
-    try_change(b"arc 5 shut:", &tails, &ends, costs, up, down, 5, shut);
+    try_change(rt, b"hidden arc 4:", &tails, &ends, costs, up, down, 4, 25);
+    try_change(rt, b"arc 5 shut:", &tails, &ends, costs, up, down, 5, shut);
 }
 
 // Lists that nobody customised: "both costs by document 01's rule from those then standing, a sum of CLOSED or more being CLOSED; no other edge
 // changes".
-fn any_change(costs: &mut [u32], up: &mut [u32], down: &mut [u32]) {
+fn any_change(rt: &impl Print, costs: &mut [u32], up: &mut [u32], down: &mut [u32]) {
     let order = [0u32, 1, 2];
     let answer = change(
         &[1, 0],
@@ -438,34 +496,40 @@ fn any_change(costs: &mut [u32], up: &mut [u32], down: &mut [u32]) {
         0,
         Cost(7),
     );
-    show_change(b"not customised:", answer, costs, up, down);
+    show_change(rt, b"not customised:", answer, costs, up, down);
 }
 
 // The changes, each with lists of its own.
-fn changes() {
+fn changes(rt: &impl Print) {
     let shut = 4294967295u32;
-    n4_changes();
-    n4_unchanged();
+    n4_changes(rt);
+    n4_unchanged(rt);
     hidden_changes(
+        rt,
         &mut [3, 4, shut, 6, 20, 30],
         &mut [shut, 4, 7, 30, shut],
         &mut [3, shut, shut, 6, 13],
     );
-    any_change(&mut [5, 9], &mut [6, 4294967290, 8, 77], &mut [5, 1, 2, 78]);
+    any_change(
+        rt,
+        &mut [5, 9],
+        &mut [6, 4294967290, 8, 77],
+        &mut [5, 1, 2, 78],
+    );
 }
 
 // One line for a route: its name, the answer, the list.
-fn show_route(name: &[u8], answer: RouteAnswer, list: &[u32]) {
-    tell(name, answer.number() as u64);
-    tell(b" at", answer.place() as u64);
-    tell(b", distance", answer.distance());
-    tell(b", arcs", answer.arcs() as u64);
-    show(b", route", list);
-    io::write_all(STDOUT_FILENO, b"\n");
+fn show_route(rt: &impl Print, name: &[u8], answer: RouteAnswer, list: &[u32]) {
+    tell(rt, name, answer.number() as u64);
+    tell(rt, b" at", answer.place() as u64);
+    tell(rt, b", distance", answer.distance());
+    tell(rt, b", arcs", answer.arcs() as u64);
+    show(rt, b", route", list);
+    let _ = rt.write_all(b"\n");
 }
 
 // Drives on N4 with another cost of arc 2, by P2's lists.
-fn drive_n4(name: &[u8], costs: &[u32], from: u32, to: u32, list: &mut [u32]) {
+fn drive_n4(rt: &impl Print, name: &[u8], costs: &[u32], from: u32, to: u32, list: &mut [u32]) {
     let tails = [1u32, 0, 2, 3, 1];
     let ends = [0u32, 2, 3, 1, 3];
     let order = [0u32, 1, 2, 3];
@@ -487,33 +551,33 @@ fn drive_n4(name: &[u8], costs: &[u32], from: u32, to: u32, list: &mut [u32]) {
         Junction(to),
         list,
     );
-    show_route(name, answer, list);
+    show_route(rt, name, answer, list);
 }
 
 // P3 to P6; arc 2's cost set to 3 with nothing redone: "room 3 or 2 gives 13, room 1 gives 12"; "N4 as customised, room 2: 12".
-fn n4_routes() {
+fn n4_routes(rt: &impl Print) {
     let costs = [3u32, 4, 2, 6, 20];
     let changed = [3u32, 4, 3, 6, 20];
-    drive_n4(b"drive 1 to 3:", &costs, 1, 3, &mut [9; 4]);
-    drive_n4(b"drive 0 to 1:", &costs, 0, 1, &mut [9; 3]);
-    drive_n4(b"drive 2 to 0:", &costs, 2, 0, &mut [9; 3]);
-    drive_n4(b"drive 0 to 0:", &costs, 0, 0, &mut [9; 1]);
-    drive_n4(b"room 2:", &costs, 1, 3, &mut [9; 2]);
-    drive_n4(b"changed, room 3:", &changed, 1, 3, &mut [9; 3]);
-    drive_n4(b"changed, room 2:", &changed, 1, 3, &mut [9; 2]);
-    drive_n4(b"changed, room 1:", &changed, 1, 3, &mut [9; 1]);
+    drive_n4(rt, b"drive 1 to 3:", &costs, 1, 3, &mut [9; 4]);
+    drive_n4(rt, b"drive 0 to 1:", &costs, 0, 1, &mut [9; 3]);
+    drive_n4(rt, b"drive 2 to 0:", &costs, 2, 0, &mut [9; 3]);
+    drive_n4(rt, b"drive 0 to 0:", &costs, 0, 0, &mut [9; 1]);
+    drive_n4(rt, b"room 2:", &costs, 1, 3, &mut [9; 2]);
+    drive_n4(rt, b"changed, room 3:", &changed, 1, 3, &mut [9; 3]);
+    drive_n4(rt, b"changed, room 2:", &changed, 1, 3, &mut [9; 2]);
+    drive_n4(rt, b"changed, room 1:", &changed, 1, 3, &mut [9; 1]);
 }
 
-fn main() {
-    sizes();
-    n4_build();
-    star();
-    bad_lists();
-    costs();
-    n4_costs(&mut [9; 6], &mut [9; 5]);
-    n4_distances();
-    n4_sweeps();
-    far_sweeps();
-    changes();
-    n4_routes();
+fn main(rt: HostRuntime) {
+    sizes(&rt);
+    n4_build(&rt);
+    star(&rt);
+    bad_lists(&rt);
+    costs(&rt);
+    n4_costs(&rt, &mut [9; 6], &mut [9; 5]);
+    n4_distances(&rt);
+    n4_sweeps(&rt);
+    far_sweeps(&rt);
+    changes(&rt);
+    n4_routes(&rt);
 }
