@@ -66,6 +66,7 @@ pub fn part_end(input: &[u8], from: usize, to: usize, mark: u8) -> usize
 }
 
 // The number that a word of one to nine digits says.
+#[tactic(auto, using(crate::proofs::TakenFrom::many_digits))]
 fn number(input: &[u8], from: usize, to: usize) -> Value
     requires { (from ≤ to) × (to ≤ length input.now) }
     ensures { result ≡ number_said (slice from to input.now) }
