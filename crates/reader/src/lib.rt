@@ -191,6 +191,7 @@ pub enum Onward {
 }
 
 // The next line, which has to end with LF, read and stored.
+#[tactic(auto, using(crate::proofs::ReadAll::stops_unended))]
 fn next_line(
     input: &[u8],
     at: usize,
@@ -256,7 +257,7 @@ pub fn read_text(
     tos: &mut [u32; 64],
 ) -> Reading
     requires { Rooms tails.old heads.old costs.old order.old froms.old tos.old }
-    ensures tos_after { reading_of result tails.new heads.new costs.new order.new froms.new tos.new ≡ read_all input.now }
+    ensures reading { reading_of result tails.new heads.new costs.new order.new froms.new tos.new ≡ read_all input.now }
     ensures counts { CountsFit result }
     ensures rooms { Rooms tails.new heads.new costs.new order.new froms.new tos.new }
 {
