@@ -3,8 +3,6 @@ use Prim.Native.Nat.{ℕ, suc, ◌+◌, ◌-◌, ◌≤◌, ◌<◌}
 use mathlib.Core.Path.{◌≡◌, refl, sym, ap, ◌∙◌}
 use mathlib.Core.Bool.{Bool, true, false, cond, ◌&&◌}
 use mathlib.Core.List.{List, [], ◌∷◌}
-use types.Run.{OneOf, miss}
-use denote.Enum.Declared.{tag_of}
 use native.Mathlib.Omega.{arith}
 use native.Mathlib.Numerals.{add-one}
 use lib.Dec.{eqb, ltb, leb}
@@ -24,7 +22,6 @@ use Rattle.cause.specs.declared.Want.TheVariants as want
 use Rattle.cause.specs.declared.Cause.TheVariants as cause
 use Rattle.cause.specs.declared.Formed.TheVariants.{Off}
 use Rattle.cause.specs.Causes.{at, whole, is_said, is_at_most, meets, want_at, not_met, none_left, first_off, begins_with_mark, ends_in_cr, holds, any_empty}
-use Rattle.cause.specs.contracts.Want.{the_type}
 
 -- ---- words
 
@@ -60,13 +57,13 @@ no_more Seat k h = let e : k ≡ suc (k - 1) = omega arith in rw e refl
 no_more Question k h = let e : k ≡ suc (suc (k - 2)) = omega arith in rw e refl
 
 -- a word is missing where one more is asked for
-pub too_few : (form : Form) (w : Want) → OneOf (0 ∷ 1 ∷ 2 ∷ 3 ∷ 4 ∷ []) (tag_of the_type w) → Off (whole (cause.TooFew form)) ≡ none_left form w
+pub too_few : (form : Form) (w : Want) → (w ≡ want.NoMore → ⊥) → Off (whole (cause.TooFew form)) ≡ none_left form w
 too_few form want.Sp o = refl
 too_few form want.Junctions o = refl
 too_few form want.Arcs o = refl
 too_few form want.Junction o = refl
 too_few form want.Cost o = refl
-too_few form want.NoMore o = absurd (miss (0 ∷ 1 ∷ 2 ∷ 3 ∷ 4 ∷ []) 5 tt o)
+too_few form want.NoMore o = absurd (o refl)
 
 -- the words of a line are those from its first byte on
 pub all_words : (l : List ℕ) (to at : ℕ) → at ≤ to → words_from l to at ≡ words (slice at to l)
