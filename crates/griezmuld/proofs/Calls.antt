@@ -18,7 +18,6 @@ use Rattle.rules.specs.declared.Direction.{Direction}
 use Rattle.rules.specs.Calls.{build_left, build_checks, build_leaves, customise_left, customise_checks, customise_leaves, change_left, change_checks, changed_costs, triangles_looked_at, change_leaves, distance_left, distance_checks, listed_distance, distance_between, distance_leaves, SweepLeaves, sweep_left, sweep_checks, swept_leaves, sweep_leaves, route_left, route_checks, route_leaves, customised_costs}
 use Rattle.theory.proofs.Words.{either, split}
 use Rattle.theory.proofs.Orders.{inverse_list}
-use Rattle.theory.proofs.Rows.{rows}
 use Rattle.theory.specs.Accepted.{Buildable, Asked}
 use Rattle.theory.proofs.Buildable.{buildable}
 use Rattle.theory.proofs.Accepted.{asked, passes15}
