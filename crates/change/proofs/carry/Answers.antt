@@ -10,7 +10,6 @@ use Rattle.change.proofs.carry.Goals as goal
 use Rattle.change.proofs.carry.Goals.{In-loop-x}
 
 -- x is a position
-
 position : (t : In-loop-x) → Turn (graph t.args.first.now t.args.row_heads.now) t.loop-x.x
 position t = carrying_turn t.requires.0 t.loop-x.invariant t.loop-x-test.true
 

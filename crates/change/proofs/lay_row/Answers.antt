@@ -9,7 +9,6 @@ use Rattle.change.proofs.lay_row.Goals as goal
 use Rattle.change.proofs.lay_row.Goals.{After-wide-y, In-loop-k, then-marks-y-ne0, else-marks-y-ne0}
 
 -- place k has an entry
-
 reads : (c : In-loop-k)
     → c.loop-k.k < length c.args.row_heads.now
 reads c =
@@ -17,14 +16,12 @@ reads c =
     (walk_reads p.0 c.loop-k.invariant.walk c.loop-k-test.true).0
 
 -- which is a position
-
 seat : (c : After-wide-y) → c.wide-y.result < 4096
 seat c =
     let p = c.requires in
     omega (arith, (walk_reads p.0 c.loop-k.invariant.walk c.loop-k-test.true).1, c.wide-y.ensures)
 
 -- the list has room for one more, and a number of 32 bits holds place k
-
 room : (c : In-loop-k) → (c.loop-k.c < 4096) × (c.loop-k.k < 8388608)
 room c =
     let p = c.requires in

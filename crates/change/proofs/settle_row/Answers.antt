@@ -7,7 +7,6 @@ use Rattle.change.proofs.settle_row.Goals as goal
 use Rattle.change.proofs.settle_row.Goals.{After-wide-k}
 
 -- the place that was read has an entry
-
 reads : (c : After-wide-k)
     → c.wide-k.result < length c.args.row_heads.now
 reads c =
