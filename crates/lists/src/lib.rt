@@ -20,6 +20,7 @@ pub enum Check {
 }
 
 // 1: there are from 1 to 4,096 junctions.
+#[tactic(auto, using(crate::proofs::Refusals::many_fails))]
 pub fn check_junctions(n: usize) -> Check
     ensures { verdict result ≡ check1 n }
 {
