@@ -16,7 +16,6 @@ use Rattle.rules.specs.Refusals.{order_fault}
 use Rattle.theory.proofs.Words.{either, split, true_false, or_l, or_r, or_e, and_i, eqb_i, eqb_e, leb_i, leb_e, some_i, some_e, each_i}
 use Rattle.theory.specs.Orders.{Ordered}
 use Rattle.theory.proofs.Orders.{inverse, inverse_is}
-use Rattle.theory.proofs.Rows.{once}
 
 -- ---- 4: the order
 

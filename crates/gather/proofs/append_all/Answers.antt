@@ -1,4 +1,5 @@
 -- `append_all` meets its contract. The loop's invariant: the entries before place k have been put in, and behind the last of them there is no
+-- member. Assumes nothing.
 use Prim.Native.Nat.{◌<◌}
 use mathlib.Core.Path.{refl, sym}
 use native.Mathlib.Omega.{arith}
@@ -7,8 +8,6 @@ use Rattle.gather.proofs.PutIn.{reached_start, put_between}
 use Rattle.gather.proofs.AllPutIn.{merging_start, merging_next, merging_more, merging_end}
 use Rattle.gather.proofs.append_all.Goals as goal
 use Rattle.gather.proofs.append_all.Goals.{After-wide-place, In-loop-k}
-
--- member. Assumes nothing.
 
 -- the next entry lies above the last and below n
 

@@ -1,4 +1,5 @@
 -- `append_all` meets its contract. The loop's invariant: the entries before place k have been put in, and behind the last of them there is no
+-- member. Assumes nothing.
 use Prim.Native.Nat.{◌-◌}
 use mathlib.Core.Path.{◌≡◌}
 use lib.ListN.{get_or}

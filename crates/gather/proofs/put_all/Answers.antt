@@ -1,4 +1,5 @@
 -- `put_all` meets its contract. The loop's invariant: the entries before place k have been put in, the rest ascends above the last of them, and what
+-- stands behind that is told. Assumes nothing.
 use Prim.Native.Nat.{◌<◌}
 use mathlib.Core.Path.{refl, sym, ◌∙◌}
 use native.Mathlib.Omega.{arith}
@@ -6,8 +7,6 @@ use lib.ListN.{get_or}
 use Rattle.gather.proofs.AllPutIn.{merging_start, merging_next, merging_more, merging_end, merging_rest}
 use Rattle.gather.proofs.put_all.Goals as goal
 use Rattle.gather.proofs.put_all.Goals.{In-loop-k}
-
--- stands behind that is told. Assumes nothing.
 
 -- the next entry lies above the last and below n
 

@@ -1,4 +1,5 @@
 -- `put_all` meets its contract. The loop's invariant: the entries before place k have been put in, the rest ascends above the last of them, and what
+-- stands behind that is told. Assumes nothing.
 use Prim.Native.Nat.{◌-◌}
 use mathlib.Core.Path.{◌≡◌}
 use lib.ListN.{get_or}

@@ -1,4 +1,5 @@
 -- `put_arcs` meets its contract. The loop's invariant: whatever arcs are threaded, those of p from k on have been put in; the walk ends since threads
+-- lead down. Assumes nothing.
 use Prim.Native.Nat.{◌-◌, ◌<◌}
 use mathlib.Core.Path.{refl, ◌∙◌}
 use mathlib.Core.Logic.{inl, inr}
@@ -10,8 +11,6 @@ use Rattle.gather.proofs.Walking.{Walking, walking_start, walking_end}
 use Rattle.gather.proofs.Arcs.{arc_there, arc_falls, arc_more}
 use Rattle.gather.proofs.put_arcs.Goals as goal
 use Rattle.gather.proofs.put_arcs.Goals.{then-p-y, else-p-y, In-loop-k}
-
--- lead down. Assumes nothing.
 
 -- some arcs are walked along
 

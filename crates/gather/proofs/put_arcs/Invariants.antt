@@ -1,4 +1,5 @@
 -- `put_arcs` meets its contract. The loop's invariant: whatever arcs are threaded, those of p from k on have been put in; the walk ends since threads
+-- lead down. Assumes nothing.
 use lib.Dec.{eqb}
 use Rattle.gather.specs.Arcs.{Arcs, ArcThreads, with_arc}
 use Rattle.gather.proofs.Walking.{Walking}

@@ -1,4 +1,5 @@
 -- `put_children` meets its contract. The loop's invariant: the rows of p's children from k on have been put in; the walk ends since threads lead
+-- down. Assumes nothing.
 use Prim.Native.Nat.{◌+◌}
 use mathlib.Core.Path.{◌∙◌}
 use native.Mathlib.Omega.{arith}
@@ -8,8 +9,6 @@ use Rattle.gather.proofs.Walking.{walking_start, walking_end}
 use Rattle.gather.proofs.WithChildren.{child_part, child_falls, child_more}
 use Rattle.gather.proofs.put_children.Goals as goal
 use Rattle.gather.proofs.put_children.Goals.{After-wide-to, In-loop-k}
-
--- down. Assumes nothing.
 
 abbrev rows : In-loop-k → Graph
 rows t = graph t.args.first.now t.args.row_heads.now

@@ -1,4 +1,5 @@
 -- `put_children` meets its contract. The loop's invariant: the rows of p's children from k on have been put in; the walk ends since threads lead
+-- down. Assumes nothing.
 use lib.Dec.{eqb}
 use lib.ListN.{drop}
 use Rattle.rules.specs.Graph.{graph}

@@ -1,12 +1,11 @@
 -- `write_fitting` meets its contract. The loop's invariant: the lower members are written, and no more places are taken than there are positions
+-- above p and below the next. Assumes nothing.
 use Prim.Native.Nat.{◌<◌}
 use native.Mathlib.Omega.{arith}
 use lib.ListN.{length}
 use Rattle.graph.proofs.Writes.{writing_start, writing_more, writing_end}
 use Rattle.graph.proofs.write_fitting.Goals as goal
 use Rattle.graph.proofs.write_fitting.Goals.{After-wide-member-in-loop-member, In-loop-member}
-
--- above p and below the next. Assumes nothing.
 
 -- there is a place for the next member
 

@@ -1,4 +1,5 @@
 -- `write_fitting` meets its contract. The loop's invariant: the lower members are written, and no more places are taken than there are positions
+-- above p and below the next. Assumes nothing.
 use Prim.Native.Nat.{◌+◌, ◌-◌, ◌≤◌}
 use Rattle.graph.proofs.Writes.{Writing}
 use Rattle.graph.proofs.write_fitting.Given as goal

@@ -1,9 +1,8 @@
 -- `write_row` meets its contract: where there is room for any row no end is watched for. The loop's invariant: the lower members are written; it ends
+-- since every place points upward. Assumes nothing.
 use native.Mathlib.Omega.{arith}
 use Rattle.graph.proofs.Writes.{writing_start, writing_more, writing_full, writing_end}
 use Rattle.graph.proofs.write_row.Goals as goal
-
--- since every place points upward. Assumes nothing.
 
 pub write_fitting-requires : goal.write_fitting-requires
 write_fitting-requires c =

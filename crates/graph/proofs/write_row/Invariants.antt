@@ -1,4 +1,5 @@
 -- `write_row` meets its contract: where there is room for any row no end is watched for. The loop's invariant: the lower members are written; it ends
+-- since every place points upward. Assumes nothing.
 use Prim.Native.Nat.{◌-◌}
 use Rattle.graph.proofs.Writes.{Writing}
 use Rattle.graph.proofs.write_row.Given as goal

@@ -1,11 +1,8 @@
 -- `check_ends` meets its contract: no fault before place i. Assumes nothing.
-use borrow.Author.Rules.{rules}
 use Prim.Native.Nat.{◌-◌}
 use lib.ListN.{length}
-use Rattle.theory.proofs.Verdicts.{Faultless, faultless_start, faultless_more, faultless_fails, faultless_passes}
-use native.Mathlib.Omega.{arith}
-use Rattle.rules.specs.Refusals.{check3, end_fault}
-use Rattle.lists.proofs.Refusals.{tail_fault, head_fault, ends_good}
+use Rattle.theory.proofs.Verdicts.{Faultless}
+use Rattle.rules.specs.Refusals.{end_fault}
 use Rattle.lists.proofs.check_ends.Given as goal
 
 abbrev pub invariant-loop-i : goal.invariant-loop-i

@@ -1,5 +1,4 @@
 -- `check_new_cost` meets its contract: the cost alone decides. Assumes nothing.
-use borrow.Author.Rules.{rules}
 use mathlib.Core.Path.{refl, sym, ◌∙◌}
 use Rattle.rules.specs.Refusals.{check_new_cost}
 use Rattle.lists.proofs.check_new_cost.Goals as goal

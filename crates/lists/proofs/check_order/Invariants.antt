@@ -1,9 +1,7 @@
 -- `check_order` meets its contract: no fault before position p, and `seen` has the junctions that stand there. Assumes nothing.
-use borrow.Author.Rules.{rules}
-use Rattle.theory.proofs.Verdicts.{Faultless, faultless_start, faultless_more, faultless_fails, faultless_passes}
-use native.Mathlib.Omega.{arith}
-use Rattle.rules.specs.Refusals.{check4, order_fault}
-use Rattle.lists.proofs.Orders.{Seen, seen_none, seen_more, large_fault, twice_fault, entry_good}
+use Rattle.theory.proofs.Verdicts.{Faultless}
+use Rattle.rules.specs.Refusals.{order_fault}
+use Rattle.lists.proofs.Orders.{Seen}
 use Prim.Native.Nat.{◌-◌}
 use lib.ListN.{length}
 use Rattle.lists.proofs.check_order.Given as goal

@@ -1,5 +1,4 @@
 -- `check_question` meets its contract. Assumes nothing.
-use borrow.Author.Rules.{rules}
 use native.Mathlib.Omega.{arith}
 use Rattle.lists.proofs.Refusals.{start_fails, target_fails, question_passes}
 use Rattle.lists.proofs.check_question.Goals as goal

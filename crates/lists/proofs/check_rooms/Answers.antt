@@ -1,5 +1,4 @@
 -- `check_rooms` meets its contract. Assumes nothing.
-use borrow.Author.Rules.{rules}
 use Rattle.lists.proofs.Refusals.{rank_fails, first_fails, rooms_pass}
 use Rattle.lists.proofs.check_rooms.Goals as goal
 

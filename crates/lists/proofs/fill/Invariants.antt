@@ -1,8 +1,7 @@
 -- `fill` meets its contract: the value stands from `from` up to place i. Assumes nothing.
-use borrow.Author.Rules.{rules}
 use Prim.Native.Nat.{◌-◌}
 use lib.ListN.{length}
-use Rattle.lists.proofs.Filled.{Filling, filling_start, filling_more, filling_all}
+use Rattle.lists.proofs.Filled.{Filling}
 use Rattle.lists.proofs.fill.Given as goal
 
 abbrev pub invariant-loop-i : goal.invariant-loop-i

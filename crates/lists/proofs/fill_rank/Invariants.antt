@@ -1,9 +1,7 @@
 -- `fill_rank` meets its contract: the positions below p are written down. Assumes nothing.
-use borrow.Author.Rules.{rules}
 use Prim.Native.Nat.{◌-◌}
 use lib.ListN.{length}
-use native.Mathlib.Omega.{arith}
-use Rattle.lists.proofs.Orders.{Ranking, ranking_start, ranking_more, ranking_all}
+use Rattle.lists.proofs.Orders.{Ranking}
 use Rattle.lists.proofs.fill_rank.Given as goal
 
 abbrev pub invariant-loop-p : goal.invariant-loop-p

@@ -1,5 +1,4 @@
 -- `find_edge` meets its contract. Assumes nothing.
-use borrow.Author.Rules.{rules}
 use native.Mathlib.Omega.{arith}
 use Rattle.rules.specs.Graph.{graph}
 use Rattle.theory.proofs.Rows.{row_ends}

@@ -1,5 +1,4 @@
 -- `find_edge_from` meets its contract: what stands before the place is lower. Assumes nothing.
-use borrow.Author.Rules.{rules}
 use native.Mathlib.Omega.{arith}
 use Rattle.rules.specs.Graph.{graph}
 use Rattle.theory.proofs.Rows.{next_row}

@@ -1,7 +1,5 @@
 -- `find_in_row` meets its contract: not found before place k. Assumes nothing.
-use borrow.Author.Rules.{rules}
-use Prim.Native.Nat.{◌-◌}
-use Rattle.lists.proofs.Found.{Unfound, unfound_start, unfound_more, found_at, found_none}
+use Rattle.lists.proofs.Found.{unfound_start, unfound_more, found_at, found_none}
 use Rattle.lists.proofs.find_in_row.Goals as goal
 
 pub loop-k-init : goal.loop-k-init

@@ -1,5 +1,4 @@
 -- `row_costs` meets its contract. Assumes nothing.
-use borrow.Author.Rules.{rules}
 use mathlib.Core.Path.{refl}
 use Rattle.lists.proofs.row_costs.Goals as goal
 
