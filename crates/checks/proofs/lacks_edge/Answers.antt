@@ -21,13 +21,11 @@ position_of-b-requires c =
     c.requires.0.heads_in c.args.i c.requires.1
 
 -- the ends' positions, seen from where the lower and the higher are known
-
 pub find_edge-requires : goal.find_edge-requires
 find_edge-requires c =
     (c.requires.0.rows, low_in c.requires.0 c.args.i c.requires.1 c.position_of-a.ensures c.position_of-b.ensures c.lower.ensures)
 
 -- what the search of the lower one's row for the higher tells
-
 searched : (c : After-find_edge) {g : Found} → let a = c.args in
     c.find_edge.result ≡ g → missing g ≡ lacks_edge a.tails.now a.heads.now a.rank.now (graph a.first.now a.row_heads.now) a.i
 searched c d =

@@ -11,7 +11,6 @@ use Rattle.customise.proofs.lower_row.Goals as goal
 use Rattle.customise.proofs.lower_row.Goals.{In-loop-k}
 
 -- the row that is met next, and that it is a place of the arrays
-
 abbrev row : In-loop-k → ℕ
 row c = c.loop-k.k - 1
 

@@ -7,7 +7,6 @@ use Rattle.distance.proofs.climb.Goals as goal
 use Rattle.distance.proofs.climb.Goals.{After-row_end-to}
 
 -- the ends of the row of q
-
 ends : (c : After-row_end-to) → (let a = c.args in RowEnds (graph a.first.now a.row_heads.now) c.loop-d.q.0 c.row_start-from.result c.row_end-to.result)
 ends c = record { below = c.loop-d.invariant.below; from_is = c.row_start-from.ensures; to_is = c.row_end-to.ensures }
 

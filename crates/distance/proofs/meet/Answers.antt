@@ -7,7 +7,6 @@ use Rattle.distance.proofs.meet.Goals as goal
 use Rattle.distance.proofs.meet.Goals.{After-row_end}
 
 -- the ends of the row of p
-
 ends : (c : After-row_end) → (let a = c.args in RowEnds (graph a.first.now a.row_heads.now) c.loop-best.p.0 c.row_start-from.result c.row_end.result)
 ends c = record { below = c.loop-best.invariant.below; from_is = c.row_start-from.ensures; to_is = c.row_end.ensures }
 

@@ -10,14 +10,12 @@ use Rattle.drive.proofs.drive_piece.Goals as goal
 use Rattle.drive.proofs.drive_piece.Goals.{In-At, In-At-find_edge}
 
 -- the edge upward
-
 upward : (c : In-At) → (let a = c.args in InRow (graph a.first.now a.row_heads.now) a.a.0 c.in-At.k × (get_or a.row_heads.now c.in-At.k 0 ≡ a.b.0))
 upward c =
     let R = c.requires.0.lists.rows in
     edge_at R c.args.a.0 c.args.b.0 _ (linked_two R _ _ c.requires.1).0 (sym c.find_edge.ensures ∙ c.in-At.is)
 
 -- the edge downward
-
 downward : (c : In-At-find_edge) → (let a = c.args in InRow (graph a.first.now a.row_heads.now) a.b.0 c.in-At-find_edge.k × (get_or a.row_heads.now c.in-At-find_edge.k 0 ≡ a.a.0))
 downward c =
     let R = c.requires.0.lists.rows in

@@ -15,13 +15,11 @@ use Rattle.drive.proofs.drive_way.Goals as goal
 use Rattle.drive.proofs.drive_way.Goals.{In-loop-i}
 
 -- the next two positions are joined
-
 joined : (c : In-loop-i) → (T (linked (graph c.args.first.now c.args.row_heads.now) (get_or c.args.way.now c.loop-i.i 0) (get_or c.args.way.now (c.loop-i.i + 1) 0)))
 joined c =
     c.requires.1.edge c.loop-i.i c.loop-i.invariant.1.low c.loop-i-test.true
 
 -- and positions of the net
-
 small : (c : In-loop-i) → ((get_or c.args.way.now c.loop-i.i 0 < 4096) × (get_or c.args.way.now (c.loop-i.i + 1) 0 < 4096))
 small c = let joined_here : (T (linked (graph c.args.first.now c.args.row_heads.now) (get_or c.args.way.now c.loop-i.i 0) (get_or c.args.way.now (c.loop-i.i + 1) 0))) = c.requires.1.edge c.loop-i.i c.loop-i.invariant.1.low c.loop-i-test.true in
     let L = c.requires.0.lists in

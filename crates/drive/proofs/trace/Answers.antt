@@ -8,17 +8,14 @@ use Rattle.drive.proofs.trace.Goals as goal
 use Rattle.drive.proofs.trace.Goals.{After-way_place, After-wide16}
 
 -- the position is one of the list's
-
 small : (c : After-wide16) → c.wide16.result < 4096
 small c = omega (arith, c.loop-p.invariant.back, c.requires.0, c.wide16.ensures)
 
 -- the list leads on from it
-
 lower : (c : After-wide16) → get_or c.args.came.now c.wide16.result 0 < c.loop-p.p
 lower c = rw c.wide16.ensures (leads_on c.loop-p.invariant.rest c.loop-p-test.true).0
 
 -- the place is one of the way's
-
 room : (c : After-way_place) → c.way_place.result < 8192
 room c = let lower_here : get_or c.args.came.now c.wide16.result 0 < c.loop-p.p = rw c.wide16.ensures (leads_on c.loop-p.invariant.rest c.loop-p-test.true).0 in
     omega (arith, c.way_place.ensures, place_room c.args.d (c.loop-p.i + 1) (omega (arith, c.loop-p.invariant.back, lower_here, c.requires.0)))

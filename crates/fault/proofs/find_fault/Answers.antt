@@ -8,7 +8,6 @@ use Rattle.fault.proofs.find_fault.Goals as goal
 use Rattle.fault.proofs.find_fault.Goals.{In-Text}
 
 -- what was counted stays within the lists
-
 fits : (c : In-Text) → CountsWithin c.in-Text.counts
 fits c = within c.read_text.result _ c.in-Text.is c.read_text.ensures.counts
 

@@ -10,14 +10,12 @@ use Rattle.gather.proofs.append_all.Goals as goal
 use Rattle.gather.proofs.append_all.Goals.{After-wide-place, In-loop-k}
 
 -- the next entry lies above the last and below n
-
 next : (t : In-loop-k) → (t.loop-k.last < get_or t.args.row_heads.now t.loop-k.k 0) × (get_or t.args.row_heads.now t.loop-k.k 0 < t.args.n)
 next t =
     let q = t.loop-k in
     merging_next _ _ _ _ _ q.k _ _ _ q.invariant.0 t.loop-k-test.true t.requires.0.within
 
 -- so that it is a place of the array
-
 place : (c : After-wide-place) → c.wide-place.result < 4096
 place c = let next_here : (c.loop-k.last < get_or c.args.row_heads.now c.loop-k.k 0) × (get_or c.args.row_heads.now c.loop-k.k 0 < c.args.n) = let q = c.loop-k in
     merging_next _ _ _ _ _ q.k _ _ _ q.invariant.0 c.loop-k-test.true c.requires.0.within in omega (arith, c.wide-place.ensures, next_here, c.requires.0.few)

@@ -8,7 +8,6 @@ use Rattle.gather.proofs.ends_of.Goals as goal
 use Rattle.gather.proofs.ends_of.Goals.{After-position_of-b}
 
 -- the ends, of what was read one after the other
-
 ends : (c : After-position_of-b) → (min c.position_of-a.result.0 c.position_of-b.result.0 ≡ low_end c.args.tails.now c.args.heads.now c.args.rank.now c.args.i) × (max c.position_of-a.result.0 c.position_of-b.result.0 ≡ high_end c.args.tails.now c.args.heads.now c.args.rank.now c.args.i)
 ends c =
     let a = c.args in

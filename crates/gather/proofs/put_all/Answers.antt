@@ -9,7 +9,6 @@ use Rattle.gather.proofs.put_all.Goals as goal
 use Rattle.gather.proofs.put_all.Goals.{In-loop-k}
 
 -- the next entry lies above the last and below n
-
 entry : (t : In-loop-k) → (t.loop-k.last.0 < get_or t.args.row_heads.now t.loop-k.k 0) × (get_or t.args.row_heads.now t.loop-k.k 0 < t.args.n)
 entry t =
     let q = t.loop-k in

@@ -13,12 +13,10 @@ use Rattle.gather.proofs.put_arcs.Goals as goal
 use Rattle.gather.proofs.put_arcs.Goals.{then-p-y, else-p-y, In-loop-k}
 
 -- some arcs are walked along
-
 walked : (t : In-loop-k) → let r = t.requires.0.0 in let p = t.args.p.0 in Walking (λ i. eqb (r.low i) p) (with_arc r p) t.args.n p r.count t.loop-k.k t.args.after.now t.loop-k.after
 walked t = let (r, arcs) = t.requires.0 in t.loop-k.invariant r arcs
 
 -- the arc is one of them, and its higher end a position
-
 there : (t : In-loop-k) → (t.loop-k.k - 1 < t.requires.0.0.count) × (get_or t.args.high.now (t.loop-k.k - 1) 0 < t.args.n)
 there t = let walked_here : let r = t.requires.0.0 in let p = t.args.p.0 in Walking (λ i. eqb (r.low i) p) (with_arc r p) t.args.n p r.count t.loop-k.k t.args.after.now t.loop-k.after = let (r, arcs) = t.requires.0 in t.loop-k.invariant r arcs in
     let h = t.requires in

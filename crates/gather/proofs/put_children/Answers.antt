@@ -14,7 +14,6 @@ abbrev rows : In-loop-k → Graph
 rows t = graph t.args.first.now t.args.row_heads.now
 
 -- the child's row can be put in
-
 part : (c : After-wide-to) → AscendingPart c.args.row_heads.now (c.wide-from.result + 1) c.wide-to.result c.args.n c.args.p.0
 part c = let rows_here : Graph = graph c.args.first.now c.args.row_heads.now in
     let q = c.loop-k in

@@ -6,7 +6,6 @@ use Rattle.gather.proofs.thread_arcs.Goals as goal
 use Rattle.gather.proofs.thread_arcs.Goals.{After-ends_of-ends}
 
 -- both ends are positions
-
 below : (c : After-ends_of-ends) → (c.ends_of-ends.result.low.0 < 4096) × (c.ends_of-ends.result.high.0 < 4096)
 below c =
     let lists = c.requires.0 in

@@ -8,14 +8,12 @@ use Rattle.graph.proofs.write_fitting.Goals as goal
 use Rattle.graph.proofs.write_fitting.Goals.{After-wide-member-in-loop-member, In-loop-member}
 
 -- there is a place for the next member
-
 fits : (t : In-loop-member) → t.loop-member.k < length t.loop-member.row_heads
 fits t =
     let q = t.loop-member in
     omega (arith, q.invariant.1, q.invariant.0.same_long, t.loop-member-test.true, t.requires.3)
 
 -- and a higher one behind it
-
 higher : (c : After-wide-member-in-loop-member) → c.loop-member.member < c.wide-member-in-loop-member.result
 higher c =
     let h = c.requires in

@@ -8,10 +8,9 @@ use Rattle.hierarchy.proofs.met_in.Goals as goal
 use Rattle.hierarchy.proofs.met_in.Goals.{then-row_heads-next+else-end-at, else-row_heads-next+then-row_heads-next-3+else-end-at-2, else-row_heads-next+else-row_heads-next-3, then-row_heads-next-2, else-row_heads-next-2, Joined-row_heads-next-2, Then-row_heads-next-3}
 
 -- two places on, where the first is wanted
-
-two-on : (c : Joined-row_heads-next-2) → let a = c.args in
+two_on : (c : Joined-row_heads-next-2) → let a = c.args in
     Met a.row_heads.now a.k a.end a.j a.stop c.if-row_heads-next-2.at c.if-row_heads-next-2.want (c.loop-next.next + 1 + 1)
-two-on c =
+two_on c =
     let stops = c.requires.3 in
     let m = sought_hit c.loop-next.invariant stops (omega (arith, c.loop-next-test.true)) c.if-row_heads-next.true in
     elim c.if-row_heads-next-2.branch [
@@ -20,18 +19,17 @@ two-on c =
     ]
 
 -- two places on, where the second is wanted
-
-second-on : (c : Then-row_heads-next-3) → let a = c.args in
+second_on : (c : Then-row_heads-next-3) → let a = c.args in
     Met a.row_heads.now a.k a.end a.j a.stop (c.loop-next.at + 1) (get_or a.row_heads.now (c.loop-next.at + 1) 0) (c.loop-next.next + 1 + 1)
-second-on c =
+second_on c =
     let stops = c.requires.3 in
     sought_hit (sought_miss c.loop-next.invariant stops (omega (arith, c.loop-next-test.true)) c.if-row_heads-next.false) stops c.loop-next-test.true c.if-row_heads-next-3.true
 
 pub returns-then-end-at : goal.returns-then-end-at
-returns-then-end-at c = met_all (two-on (goal.at.returns-then-end-at c).Joined-row_heads-next-2) c.if-end-at.true
+returns-then-end-at c = met_all (two_on (goal.at.returns-then-end-at c).Joined-row_heads-next-2) c.if-end-at.true
 
 pub returns-then-end-at-2 : goal.returns-then-end-at-2
-returns-then-end-at-2 c = met_all (second-on (goal.at.returns-then-end-at-2 c).Then-row_heads-next-3) c.if-end-at-2.true
+returns-then-end-at-2 c = met_all (second_on (goal.at.returns-then-end-at-2 c).Then-row_heads-next-3) c.if-end-at-2.true
 
 pub loop-next-preserved : goal.loop-next-preserved
 loop-next-preserved c =

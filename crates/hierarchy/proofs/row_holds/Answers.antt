@@ -13,7 +13,6 @@ overflow_add-rest c =
     omega (arith, c.wide-from.ensures, c.shared_slice_known-3-1.given c.args.p.0)
 
 -- the row ends within heads
-
 fits : (c : After-wide-to) → c.wide-to.result ≤ length c.args.row_heads.now
 fits c = omega (arith, c.wide-to.ensures, c.requires.2.fits)
 
@@ -37,7 +36,6 @@ returns-then-not-is_above c =
     _ refl (omega (arith, c.if-to-rest.false)) (fits (goal.at.returns-then-not-is_above c).After-wide-to) (sym c.if-not-is_above.true ∙ c.is_above-2.ensures)
 
 -- the parent lies above p and below n
-
 above : (c : Else-not-is_above) → let a = c.args in
     let parent = get_or a.row_heads.now c.wide-from.result 0 in (a.p.0 < parent) × (parent < a.n)
 above c =

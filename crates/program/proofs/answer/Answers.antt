@@ -8,7 +8,6 @@ use Rattle.program.proofs.answer.Goals as goal
 use Rattle.program.proofs.answer.Goals.{In-Text}
 
 -- what was counted stays within the lists
-
 fits : (c : In-Text) → CountsWithin c.in-Text.counts
 fits c = within c.read_text.result _ c.in-Text.is c.read_text.ensures.counts
 

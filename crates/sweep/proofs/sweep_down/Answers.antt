@@ -14,7 +14,6 @@ unfolding count
 loop-p-init c = going_start _ (omega (arith)) c.wide-to.ensures
 
 -- the row of the next position, read
-
 row : (c : After-wide-from) → (let a = c.args in RowEnds (graph a.first.now a.row_heads.now) (c.loop-p.p - 1) c.wide-from.result c.loop-p.to)
 row c = ends c.requires.0 c.loop-p.invariant (omega (arith, c.loop-p-test.true)) c.wide-from.ensures
 

@@ -13,7 +13,6 @@ pub loop-p-init : goal.loop-p-init
 loop-p-init c = telling_start _ _ _ c.requires.0.as_many
 
 -- junction j is one of the net
-
 here : (c : After-struct_known-1) → c.loop-p.j < length c.args.rank.now
 here c = omega (arith, c.loop-p-test.true, c.wide.ensures)
 
@@ -23,7 +22,6 @@ within c = let here_here : c.loop-p.j < length c.args.rank.now = omega (arith, c
     omega (arith, c.position_of-p.ensures, P.position c.loop-p.j (here_here), P.few)
 
 -- what is known of it can be added
-
 capped : (c : After-struct_known-1) → get_or c.args.reach.now c.position_of-p.result.0 0 ≤ far
 capped c = let here_here : c.loop-p.j < length c.args.rank.now = omega (arith, c.loop-p-test.true, c.wide.ensures) in rw c.position_of-p.ensures (c.requires.1 c.loop-p.j (here_here))
 
