@@ -10,7 +10,6 @@ pub mod guarded;
 pub mod judge;
 pub mod lists;
 pub mod measure;
-pub mod reads;
 pub mod ready;
 pub mod shrink;
 pub mod subject;

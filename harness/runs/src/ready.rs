@@ -65,7 +65,7 @@ pub struct Ready {
     pub lists: Lists,
     /// E.
     pub edges: usize,
-    pub(crate) pairs: Vec<(u32, u32)>,
+    pairs: Vec<(u32, u32)>,
     swept: Vec<(u32, u32)>,
     /// Arcs, and their costs at first.
     changed: Vec<(u32, u32)>,

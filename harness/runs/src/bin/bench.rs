@@ -4,8 +4,7 @@ use nets::stored;
 use runs::growth::{self, Kind};
 use runs::lists::Call;
 use runs::measure::{self, at, Counts, PerJob, Wanted};
-use runs::reads::{self, Reads};
-use runs::ready::{Ready, Who, CHANGES, DAIRIES, PAIRS};
+use runs::ready::{Ready, Who, CHANGES, DAIRIES};
 use slices::Way;
 use std::fmt::Write;
 use std::path::{Path, PathBuf};
@@ -34,8 +33,7 @@ const MARKS: [&str; 2] = [
     "<!-- tables: to here -->\n",
 ];
 
-/// Nets where one arc changes every row, and where every two junctions are joined: they are measured for that alone;
-/// what is read is counted of them, too.
+/// Nets where one arc changes every row, and where every two junctions are joined: they are measured for that alone.
 const WORST: [&str; 2] = ["path 4096", "star 96"];
 
 /// The calls of the first tables; the sweeps and change have tables of their own.
@@ -56,7 +54,6 @@ struct Measured {
     edges: usize,
     times: PerJob<f64>,
     counts: Option<Counts>,
-    reads: reads::Counts,
 }
 
 fn main() {
@@ -140,8 +137,6 @@ fn measure(options: &Options, name: &'static str, wanted: Wanted) -> Result<Meas
     if !ready.agrees() {
         return Err(format!("on {name} the answers differ: run `properties`"));
     }
-    // before the runs that change arcs
-    let reads = reads::count(&ready).map_err(|error| format!("on {name}: {error}"))?;
     let samples = if options.quick { 5 } else { 41 };
     let counts = match options.times_only {
         true => None,
@@ -154,7 +149,6 @@ fn measure(options: &Options, name: &'static str, wanted: Wanted) -> Result<Meas
         edges: ready.edges,
         times: measure::times(&mut ready, samples, wanted),
         counts,
-        reads,
     })
 }
 
@@ -191,14 +185,6 @@ fn report(nets: &[Measured], counties: &[Measured], worst: &[Measured]) -> Strin
         let nets = nets.iter().chain(counties).chain(worst);
         changes(&mut text, kind, nets);
     }
-    let _ = write!(
-        text,
-        "## Entries read\n\n\
-         Row entries read by the searches of check 8, of customise for arcs onto edges, and of route, there the mean over its {PAIRS} pairs. Cells: before / after = the share that is left. \
-         Before request c the search read a row in order, to the entry or the row's end. \
-         Both are counted by a model of the searches in `harness/runs/src/reads.rs`, not by the library.\n\n"
-    );
-    entries_read(&mut text, nets.iter().chain(counties).chain(worst));
     text
 }
 
@@ -357,30 +343,4 @@ fn by_customise(text: &mut String, [library, plain]: [f64; 2], customise: [f64; 
         library / customise[0],
         plain / customise[1]
     );
-}
-
-/// The table of row entries read by both searches.
-fn entries_read<'a>(text: &mut String, nets: impl Iterator<Item = &'a Measured>) {
-    text.push_str(
-        "| net | n | E | check 8 | arcs onto edges | route |\n\
-         |---|---:|---:|---:|---:|---:|\n",
-    );
-    for net in nets {
-        let Measured { name, n, edges, .. } = net;
-        let reads::Counts {
-            check,
-            onto_edges,
-            route,
-        } = net.reads;
-        // writing to a string never fails
-        let _ = write!(text, "| {name} | {n} | {edges} |");
-        for Reads { before, after } in [check, onto_edges] {
-            let left = after as f64 / before as f64;
-            let _ = write!(text, " {before} / {after} = {left:.2} |");
-        }
-        let Reads { before, after } = route;
-        let [before, after] = [before, after].map(|reads| reads as f64 / PAIRS as f64);
-        let _ = writeln!(text, " {before:.1} / {after:.1} = {:.2} |", after / before);
-    }
-    text.push('\n');
 }
