@@ -9,7 +9,7 @@ FNR == NR {
     refusals++
     if (/stopped at the step limit/) too_long[who] = 1
     # what a claim rests on, which must hold whatever the answer says
-    if (who !~ /^(q[0-9]+|p[0-9]+|edges-told|whole|by-call|whole-found|.*-holds|all-hold)$/) lost = lost " " who
+    if (who !~ /^(q[0-9]+|p[0-9]+|edges_told|whole|by_call|whole_found|.*_holds|all_hold)$/) lost = lost " " who
     next
 }
 
@@ -29,7 +29,7 @@ function claims(number) { return number " claim" (number == 1 ? "" : "s") }
 function tell(lines, number,    i) { for (i = 1; i <= number; i++) print "  " lines[i] }
 
 END {
-    if ("rows" in too_long || "costs-of-rows" in too_long) {
+    if ("rows" in too_long || "costs_of_rows" in too_long) {
         print name ": the checker cannot compute the shortcut graph of this net in the steps that it has: too many of its junctions are joined"
         exit 3
     }
