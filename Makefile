@@ -39,7 +39,7 @@ library:
 install: library
 	@DESTDIR=$(call one_word,DESTDIR) scripts/install $(call one_word,PREFIX)
 
-## make test                       the gate: all proved from nothing, all edits refused, all runs compared
+## make test                       the gate: all proved, all edits refused, all runs compared
 test:
 	@.ci/run
 
@@ -50,7 +50,7 @@ bench:
 	@scripts/proved library
 	@cd harness && cargo run --quiet --release -j1 --bin bench -- --write ../docs/BENCHMARKS.md
 
-## make clean                      removes what was proved and built: target, harness/target, examples/rust/target
+## make clean                      removes what was proved and built: target, crates/*/out, harness/target, examples/rust/target
 clean:
-	@rm -rf target harness/target examples/rust/target
-	@echo "removed: target, harness/target, examples/rust/target"
+	@rm -rf target crates/*/out harness/target examples/rust/target
+	@echo "removed: target, crates/*/out, harness/target, examples/rust/target"

@@ -35,7 +35,7 @@ fn main() {
                 "The library's archive {} can't be read: {error}.",
                 archive.display()
             );
-            eprintln!("Make it with `rt staticlib tablet`, or name one in GRIEZMULD_ARCHIVE.");
+            eprintln!("Make it with `make library`, or name one in GRIEZMULD_ARCHIVE.");
             exit(1);
         }
     }

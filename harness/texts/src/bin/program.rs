@@ -105,10 +105,9 @@ fn programs(mode: &Mode) -> Result<(Programs, String), String> {
     let bad_line = named("BAD_LINE_PROGRAM", "target/bin/bad_line");
     let name = format!("{route} and {bad_line}");
     let programs = Programs {
-        route: Program::at(route, &[])
-            .map_err(|error| error + ": make it with 'rt check route'")?,
+        route: Program::at(route, &[]).map_err(|error| error + ": make it with 'make programs'")?,
         bad_line: Program::at(bad_line, &[])
-            .map_err(|error| error + ": make it with 'rt check bad_line'")?,
+            .map_err(|error| error + ": make it with 'make programs'")?,
     };
     Ok((programs, name))
 }
