@@ -234,6 +234,7 @@ fn carry(
 }
 
 // The same in a graph of at most 65,536 edges.
+#[inline(never)]
 fn carry_few(
     heads: &[u32],
     costs: &[u32],
@@ -257,6 +258,7 @@ fn carry_few(
 }
 
 // The same in any graph of at most 4,096 positions.
+#[inline(never)]
 fn carry_many(
     heads: &[u32],
     costs: &[u32],
