@@ -8,7 +8,7 @@ ghost use Rattle.rules.specs.Refusals.{check1, check2, check3, check4, check5, u
 ghost use Rattle.rules.specs.Hierarchy.{edge_costs};
 ghost use Rattle.theory.specs.Orders.{Ordered};
 ghost use Rattle.theory.specs.Rows.{InRow, Rows, count};
-ghost use Rattle.lists.specs.Lent.{verdict, Ascending, found_in, edge_found, part, chosen, filled};
+ghost use Rattle.lists.specs.Lent.{verdict, found_in, edge_found, part, chosen, filled};
 
 use rules::{Cost, Direction, Found, Junction, Position, Refusal, wide};
 

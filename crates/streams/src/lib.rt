@@ -7,7 +7,7 @@ ghost use Rattle.streams.specs.Got.{Came, Within};
 use std::io::{Print, Read, Stderr, Stdout};
 
 // How many bytes came, or that a read failed.
-#[derive(Drop)]
+#[derive(Clone, Copy)]
 pub enum Got {
     Bytes(usize),
     Failed,
