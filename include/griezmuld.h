@@ -34,8 +34,8 @@
  * Stack
  *   What a call needs besides the lists it keeps on the stack. On the lists that ask most of it, measured for x86-64 to
  *   the next 16 KiB: build 128 KiB, customise 48 KiB, change 1,200 KiB, distance 80 KiB, either sweep 48 KiB, route
- *   832 KiB. Of change's, 176 KiB are enough for a graph of up to 65,536 edges; the rest is one bit for each edge that
- *   there can be. Of route's, some 120 KiB are always used; the rest is for shortcuts made of shortcuts, some 180 bytes for
+ *   768 KiB. Of change's, 176 KiB are enough for a graph of up to 65,536 edges; the rest is one bit for each edge that
+ *   there can be. Of route's, some 120 KiB are always used; the rest is for shortcuts made of shortcuts, some 160 bytes for
  *   each inside another. They nest 4,000 deep only if the order is as bad as can be, but nothing forbids such an order:
  *   give the thread that calls route GRIEZMULD_ROUTE_STACK bytes, which are enough for every other call too.
  *   examples/c/thread.c does so.

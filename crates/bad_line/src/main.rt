@@ -1,345 +1,190 @@
 // Tells what is wrong with a text for the program `route`: the line, the refusal's number, the cause, and the line itself.
 #![tactic(auto)]
 
-ghost use Rattle.bad_line.specs.Room.{Room, SpanIn};
-
-use cause::{Cause, Fault, Form};
-use fault::{Verdict, find_fault};
-use streams::{Got, read_all, tell_unread, write_out};
-use text::part_end;
-
-// Where some bytes of the text begin and end.
-#[derive(Clone, Copy)]
-pub struct Span {
-    pub at: usize,
-    pub end: usize,
-}
+use cause::{Cause, Form};
+use fault::{Wrong, find_fault};
+use page::Page;
+use std::fmt;
+use std::fmt::{Display, Formatter, Write};
+use streams::{read_all, tell_unread, write_out};
 
 // The part number k, from 1, of some bytes cut at each `mark`; the last part if there are fewer.
-fn nth_part(input: &[u8], span: Span, mark: u8, k: usize) -> Span
-    requires { SpanIn span input.now }
-    ensures { SpanIn result input.now }
-{
-    let last = span.end;
-    let mut at = span.at;
-    let mut end = part_end(input, at, last, mark);
-    let mut i = 1;
-    while i < k {
-        if end == last {
-            break;
+fn nth_part(bytes: &[u8], mark: u8, k: usize) -> &[u8] {
+    let parts = bytes.split(|&byte| byte == mark);
+    parts.take(k).last().unwrap_or(bytes)
+}
+
+// Some bytes of the text, 80 at most: each as it is if it is of plain text, else as \xNN.
+#[derive(Clone, Copy)]
+struct Shown<'a>(&'a [u8]);
+
+impl Display for Shown<'_> {
+    fn fmt<W: Write>(&self, f: &mut Formatter<W>) -> fmt::Result {
+        for (k, &byte) in self.0.iter().enumerate() {
+            if k == 80 {
+                return write!(f, " ..");
+            }
+            match byte {
+                32..=126 => write!(f, "{}", char::from(byte))?,
+                _ => write!(f, "\\x{byte:02x}")?,
+            }
         }
-        at = end + 1;
-        end = part_end(input, at, last, mark);
-        i += 1;
+        Ok(())
     }
-    Span { at, end }
-}
-
-// Bytes written behind what was written before, as far as there is room.
-fn put(output: &mut [u8; 1024], at: usize, bytes: &[u8]) -> usize
-    requires { Room at output.old }
-    ensures { Room result output.new }
-{
-    let mut k = 0;
-    while k < bytes.len() {
-        if at + k == 1024 {
-            return 1024;
-        }
-        output[at + k] = bytes[k];
-        k += 1;
-    }
-    at + k
-}
-
-// A number in digits.
-fn put_number(output: &mut [u8; 1024], at: usize, x: usize) -> usize
-    requires { Room at output.old }
-    ensures { Room result output.new }
-{
-    let mut digits = [0u8; 20];
-    let count = io::decimal(x as u64, &mut digits);
-    put(output, at, &digits[..count])
-}
-
-// One byte as it is if it is of plain text, else as \xNN.
-fn put_byte(output: &mut [u8; 1024], at: usize, byte: u8) -> usize
-    requires { Room at output.old }
-    ensures { Room result output.new }
-{
-    if 31 < byte {
-        if byte < 127 {
-            return put(output, at, &[byte]);
-        }
-    }
-    let mut digits = [0u8; 16];
-    let count = io::hex(byte as u64, 2, &mut digits);
-    let next = put(output, at, b"\\x");
-    put(output, next, &digits[..count])
-}
-
-// Some bytes of the text, 80 at most.
-fn put_shown(output: &mut [u8; 1024], at: usize, input: &[u8], span: Span) -> usize
-    requires { Room at output.old × SpanIn span input.now }
-    ensures { Room result output.new }
-{
-    let end = span.end;
-    let mut next = at;
-    let mut k = span.at;
-    while k < end {
-        if k - span.at == 80 {
-            return put(output, next, b" ..");
-        }
-        next = put_byte(output, next, input[k]);
-        k += 1;
-    }
-    next
-}
-
-// What `p` says, and how many there are.
-fn put_short(output: &mut [u8; 1024], at: usize, says: usize, what: &[u8], are: usize) -> usize
-    requires { Room at output.old }
-    ensures { Room result output.new }
-{
-    let first = put(output, at, b"p says ");
-    let second = put_number(output, first, says);
-    let third = put(output, second, what);
-    put_number(output, third, are)
-}
-
-// What `p` says of the arcs, and how many there are.
-fn put_arcs_short(output: &mut [u8; 1024], at: usize, says: usize, are: usize) -> usize
-    requires { Room at output.old }
-    ensures { Room result output.new }
-{
-    put_short(output, at, says, b" arcs, here are ", are)
-}
-
-// What `p` says of the junctions, and how many stand in the order.
-fn put_order_short(output: &mut [u8; 1024], at: usize, says: usize, are: usize) -> usize
-    requires { Room at output.old }
-    ensures { Room result output.new }
-{
-    let next = put_short(output, at, says, b" junctions, here are ", are);
-    put(output, next, b" lines o")
-}
-
-// What `p` says, and that there is more.
-fn put_more(output: &mut [u8; 1024], at: usize, says: usize, what: &[u8]) -> usize
-    requires { Room at output.old }
-    ensures { Room result output.new }
-{
-    let first = put(output, at, b"p says ");
-    let second = put_number(output, first, says);
-    put(output, second, what)
 }
 
 // How a line of a form is written.
-fn put_form(output: &mut [u8; 1024], at: usize, form: Form) -> usize
-    requires { Room at output.old }
-    ensures { Room result output.new }
-{
+// A function and no Display, here and below: Form and Cause are of another crate, so Display is for `Words`.
+fn form_words(form: Form) -> &'static str {
     match form {
-        Form::Problem => put(output, at, b"p sp n m"),
-        Form::Arc => put(output, at, b"a tail head cost"),
-        Form::Seat => put(output, at, b"o junction"),
-        Form::Question => put(output, at, b"q from to"),
+        Form::Problem => "p sp n m",
+        Form::Arc => "a tail head cost",
+        Form::Seat => "o junction",
+        Form::Question => "q from to",
     }
-}
-
-// A number of junctions, behind some words.
-fn put_junctions(output: &mut [u8; 1024], at: usize, bytes: &[u8], n: usize) -> usize
-    requires { Room at output.old }
-    ensures { Room result output.new }
-{
-    let next = put(output, at, bytes);
-    put_number(output, next, n)
 }
 
 // Why a net is refused, in words.
-fn put_net_cause(output: &mut [u8; 1024], at: usize, cause: Cause) -> usize
-    requires { Room at output.old }
-    ensures { Room result output.new }
-{
+fn write_net_cause<W: Write>(f: &mut Formatter<W>, cause: Cause) -> fmt::Result {
     match cause {
-        Cause::NoJunction => put(output, at, b"there must be a junction"),
-        Cause::EndOver(n) => put_junctions(output, at, b"an arc ends at junctions 1 to ", n),
-        Cause::SeatOver(n) => put_junctions(output, at, b"the order has junctions 1 to ", n),
-        Cause::SeatTwice => put(output, at, b"each junction stands in the order once"),
-        Cause::EdgesOver => put(output, at, b"this order makes more than 4096 edges"),
-        _ => put(output, at, b"the lists do not fit together"),
+        Cause::NoJunction => write!(f, "there must be a junction"),
+        Cause::EndOver(n) => write!(f, "an arc ends at junctions 1 to {n}"),
+        Cause::SeatOver(n) => write!(f, "the order has junctions 1 to {n}"),
+        Cause::SeatTwice => write!(f, "each junction stands in the order once"),
+        Cause::EdgesOver => write!(f, "this order makes more than 4096 edges"),
+        _ => write!(f, "the lists do not fit together"),
     }
 }
 
+// What `p` says of the arcs, and how many there are.
+fn write_arcs_short<W: Write>(f: &mut Formatter<W>, says: usize, are: usize) -> fmt::Result {
+    write!(f, "p says {says} arcs, here are {are}")
+}
+
+// What `p` says of the junctions, and how many stand in the order.
+fn write_order_short<W: Write>(f: &mut Formatter<W>, says: usize, are: usize) -> fmt::Result {
+    write!(f, "p says {says} junctions, here are {are} lines o")
+}
+
 // Why a line may not stand where it does, in words.
-fn put_place_cause(output: &mut [u8; 1024], at: usize, cause: Cause) -> usize
-    requires { Room at output.old }
-    ensures { Room result output.new }
-{
+fn write_place_cause<W: Write>(f: &mut Formatter<W>, cause: Cause) -> fmt::Result {
     match cause {
-        Cause::SecondProblem => put(output, at, b"there is one line p, and it came before"),
-        Cause::BeforeProblem => put(output, at, b"the line p sp n m must come first"),
-        Cause::ArcTooMany(m) => put_more(output, at, m, b" arcs; this is one more"),
-        Cause::ArcsShort(m, k) => put_arcs_short(output, at, m, k),
-        Cause::SeatTooMany(n) => { put_more(output, at, n, b" junctions; this is one line o more") }
-        Cause::OrderShort(n, k) => put_order_short(output, at, n, k),
-        Cause::QuestionTooMany => put(output, at, b"there are at most 64 questions"),
-        _ => put_net_cause(output, at, cause),
+        Cause::SecondProblem => write!(f, "there is one line p, and it came before"),
+        Cause::BeforeProblem => write!(f, "the line p sp n m must come first"),
+        Cause::ArcTooMany(m) => write!(f, "p says {m} arcs; this is one more"),
+        Cause::ArcsShort(m, k) => write_arcs_short(f, m, k),
+        Cause::SeatTooMany(n) => write!(f, "p says {n} junctions; this is one line o more"),
+        Cause::OrderShort(n, k) => write_order_short(f, n, k),
+        Cause::QuestionTooMany => write!(f, "there are at most 64 questions"),
+        _ => write_net_cause(f, cause),
     }
 }
 
 // Why the words of a line are refused, in words.
-fn put_word_cause(output: &mut [u8; 1024], at: usize, cause: Cause) -> usize
-    requires { Room at output.old }
-    ensures { Room result output.new }
-{
+fn write_word_cause<W: Write>(f: &mut Formatter<W>, cause: Cause) -> fmt::Result {
     match cause {
-        Cause::Letter => put(output, at, b"a line begins with c, p, a, o or q"),
-        Cause::NotSp => put(output, at, b"p is followed by sp"),
-        Cause::NotJunctions => put(output, at, b"there are at most 256 junctions"),
-        Cause::NotArcs => put(output, at, b"there are at most 1024 arcs"),
-        Cause::NotJunction => put(
-            output,
-            at,
-            b"a junction is a number from 1 on, of at most nine digits",
-        ),
-        Cause::NotCost => put(output, at, b"a cost is 1 to 500000 or -"),
+        Cause::Letter => write!(f, "a line begins with c, p, a, o or q"),
+        Cause::NotSp => write!(f, "p is followed by sp"),
+        Cause::NotJunctions => write!(f, "there are at most 256 junctions"),
+        Cause::NotArcs => write!(f, "there are at most 1024 arcs"),
+        Cause::NotJunction => {
+            write!(
+                f,
+                "a junction is a number from 1 on, of at most nine digits"
+            )
+        }
+        Cause::NotCost => write!(f, "a cost is 1 to 500000 or -"),
         Cause::TooFew(form) => {
-            let next = put(output, at, b"the line has too few words; it is ");
-            put_form(output, next, form)
+            write!(f, "the line has too few words; it is {}", form_words(form))
         }
         Cause::TooMany(form) => {
-            let next = put(output, at, b"the line has too many words; it is ");
-            put_form(output, next, form)
+            write!(f, "the line has too many words; it is {}", form_words(form))
         }
-        _ => put_place_cause(output, at, cause),
+        _ => write_place_cause(f, cause),
     }
 }
 
 // Why a line's form is refused, in words.
-fn put_line_cause(output: &mut [u8; 1024], at: usize, cause: Cause) -> usize
-    requires { Room at output.old }
-    ensures { Room result output.new }
-{
+fn write_line_cause<W: Write>(f: &mut Formatter<W>, cause: Cause) -> fmt::Result {
     match cause {
-        Cause::Unended => put(output, at, b"the last line does not end with LF"),
-        Cause::ByteOrderMark => put(output, at, b"the line begins with a byte order mark"),
-        Cause::CarriageReturn => put(
-            output,
-            at,
-            b"the line ends in CR LF; it must end in LF alone",
-        ),
-        Cause::Tab => put(output, at, b"words are parted by one space; here is a tab"),
-        Cause::Empty => put(output, at, b"the line is empty"),
-        Cause::Spaces => put(
-            output,
-            at,
-            b"words are parted by one space; here are more, or one at an end",
-        ),
-        _ => put_word_cause(output, at, cause),
+        Cause::Unended => write!(f, "the last line does not end with LF"),
+        Cause::ByteOrderMark => write!(f, "the line begins with a byte order mark"),
+        Cause::CarriageReturn => { write!(f, "the line ends in CR LF; it must end in LF alone") }
+        Cause::Tab => write!(f, "words are parted by one space; here is a tab"),
+        Cause::Empty => write!(f, "the line is empty"),
+        Cause::Spaces => {
+            write!(
+                f,
+                "words are parted by one space; here are more, or one at an end"
+            )
+        }
+        _ => write_word_cause(f, cause),
     }
 }
 
 // Why a text is refused, in words.
-fn put_cause(output: &mut [u8; 1024], at: usize, cause: Cause) -> usize
-    requires { Room at output.old }
-    ensures { Room result output.new }
-{
-    match cause {
-        Cause::TooLong => put(output, at, b"a text has at most 65536 bytes"),
-        Cause::NoProblem => put(output, at, b"the text ends; it has no line p sp n m"),
-        Cause::EndsInArcs(m, k) => {
-            let next = put(output, at, b"the text ends; ");
-            put_arcs_short(output, next, m, k)
+#[derive(Clone, Copy)]
+struct Words(Cause);
+
+impl Display for Words {
+    fn fmt<W: Write>(&self, f: &mut Formatter<W>) -> fmt::Result {
+        match self.0 {
+            Cause::TooLong => write!(f, "a text has at most 65536 bytes"),
+            Cause::NoProblem => write!(f, "the text ends; it has no line p sp n m"),
+            Cause::EndsInArcs(m, k) => {
+                write!(f, "the text ends; ")?;
+                write_arcs_short(f, m, k)
+            }
+            Cause::EndsInOrder(n, k) => {
+                write!(f, "the text ends; ")?;
+                write_order_short(f, n, k)
+            }
+            _ => write_line_cause(f, self.0),
         }
-        Cause::EndsInOrder(n, k) => {
-            let next = put(output, at, b"the text ends; ");
-            put_order_short(output, next, n, k)
-        }
-        _ => put_line_cause(output, at, cause),
     }
 }
 
-// The cause, and the word of the line that it speaks of.
-fn put_fault(output: &mut [u8; 1024], at: usize, fault: Fault, input: &[u8], line: Span) -> usize
-    requires { Room at output.old × SpanIn line input.now }
-    ensures { Room result output.new }
-{
-    let cause = fault.cause;
-    let next = put_cause(output, at, cause);
-    if fault.word == 0 {
-        return next;
-    }
-    let shown = put(output, next, b"; here ");
-    put_shown(
-        output,
-        shown,
-        input,
-        nth_part(input, line, b' ', fault.word),
-    )
-}
-
-// The line at fault, below what is told of it, if it has any byte.
-fn put_line(output: &mut [u8; 1024], at: usize, input: &[u8], line: Span) -> usize
-    requires { Room at output.old × SpanIn line input.now }
-    ensures { Room result output.new }
-{
-    if line.at == line.end {
-        return at;
-    }
-    let first = put(output, at, b"  ");
-    let second = put_shown(output, first, input, line);
-    put(output, second, b"\n")
-}
-
-// Where a line of the text stands; line 0 has no text.
-fn line_span(input: &[u8], line: usize) -> Span
-    ensures { SpanIn result input.now }
-{
-    if line == 0 {
-        return Span { at: 0, end: 0 };
-    }
-    let all = Span {
-        at: 0,
-        end: input.len(),
+// What is told of a text that is refused; line 0 has no text.
+fn tell_wrong<W: Write>(told: &mut W, input: &[u8], wrong: Wrong) -> fmt::Result {
+    let line = wrong.line;
+    let text = if line == 0 {
+        &[]
+    } else {
+        nth_part(input, b'\n', line)
     };
-    nth_part(input, all, b'\n', line)
-}
-
-// What is told of a text that is refused.
-fn put_wrong(output: &mut [u8; 1024], input: &[u8], line: usize, number: u32, fault: Fault) -> usize
-    requires { Room 0 output.old }
-    ensures { Room result output.new }
-{
-    let span = line_span(input, line);
-    let first = put(output, 0, b"line ");
-    let second = put_number(output, first, line);
-    let third = put(output, second, b": refused ");
-    let fourth = put_number(output, third, number as usize);
-    let fifth = put(output, fourth, b": ");
-    let sixth = put_fault(output, fifth, fault, input, span);
-    let seventh = put(output, sixth, b"\n");
-    put_line(output, seventh, input, span)
+    write!(
+        told,
+        "line {line}: refused {}: {}",
+        wrong.refusal.number(),
+        Words(wrong.fault.cause)
+    )?;
+    if let Some(word) = wrong.fault.word {
+        write!(told, "; here {}", Shown(nth_part(text, b' ', word)))?;
+    }
+    writeln!(told)?;
+    if !text.is_empty() {
+        writeln!(told, "  {}", Shown(text))?;
+    }
+    Ok(())
 }
 
 // What is told of a text.
-fn put_verdict(output: &mut [u8; 1024], input: &[u8]) -> usize
-    requires { Room 0 output.old }
-    ensures { Room result output.new }
-{
+fn tell_verdict<W: Write>(told: &mut W, input: &[u8]) -> fmt::Result {
     match find_fault(input) {
-        Verdict::Keeps => put(output, 0, b"the text keeps the rules\n"),
-        Verdict::Wrong(line, number, fault) => put_wrong(output, input, line, number, fault),
+        Ok(()) => writeln!(told, "the text keeps the rules"),
+        Err(wrong) => tell_wrong(told, input, wrong),
     }
 }
 
-// Reads one byte more than a text may have, so that too long a text is seen.
+// Reads one byte more than a text may have, so that too long a text is seen. What is told has room for 1,024 bytes; a page takes what fits.
+// `route` has such a main, too: a shared one would take the answer as a closure over pages of two sizes.
 fn main(rt: HostRuntime) {
     let mut input = [0u8; 65537];
-    let mut output = [0u8; 1024];
-    let Got::Bytes(got) = read_all(&mut rt.stdin(), &mut input) else {
+    let Ok(got) = read_all(&mut rt.stdin(), &mut input) else {
         tell_unread(rt.stderr(), b"bad_line");
         return;
     };
-    let size = put_verdict(&mut output, &input[..got]);
-    write_out(rt.stdout(), rt.stderr(), b"bad_line", &output[..size]);
+    let mut told: Page<1024> = Page::new();
+    let _ = tell_verdict(&mut told, &input[..got]);
+    write_out(rt.stdout(), rt.stderr(), b"bad_line", told.written());
 }

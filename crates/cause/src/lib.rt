@@ -1,14 +1,13 @@
 // Why a line of a text for the program `route` is refused: its form first, then its words from the left, then its place among the lines.
 #![tactic(auto)]
 
-ghost use Rattle.std.specs.Prelude.{◌≤◌, ◌<◌, ◌≡◌, length};
-ghost use Rattle.std.proofs.Math.Seq.{slice};
+ghost use Rattle.std.specs.Prelude.{◌≡◌};
 ghost use Rattle.text.specs.Bytes.{words};
-ghost use Rattle.text.specs.ReadBack.{value_said, words_from};
-ghost use Rattle.cause.specs.Causes.{is_said, is_at_most, meets, want_at, not_met, first_off, letter_of, arc_place, seat_place, question_place, place_fault, words_fault, begins_with_mark, ends_in_cr, holds, any_empty, line_fault, end_fault};
+ghost use Rattle.text.specs.ReadBack.{parts_left};
+ghost use Rattle.cause.specs.Causes.{whole, is_at_most, meets, wants, not_met, first_off, letter_of, seat_place, question_place, place_fault, words_fault, any_empty, line_fault, end_fault};
 
-use reader::State;
-use text::{Kind, Value, is_byte, part_end, said};
+use reader::{Sizes, State};
+use text::{Parts, cost, junction, number};
 
 // The four forms of a line that isn't a comment.
 #[derive(Clone, Copy)]
@@ -19,7 +18,7 @@ pub enum Form {
     Question,
 }
 
-// What a word behind the letter must be, or that there is none.
+// What a word behind the letter must be.
 #[derive(Clone, Copy)]
 pub enum Want {
     Sp,
@@ -27,10 +26,10 @@ pub enum Want {
     Arcs,
     Junction,
     Cost,
-    NoMore,
 }
 
 // Why a text is refused, with the numbers that its words tell: what `p` says first, then what is here.
+// `Elsewhere` is for refusals that build and customise may give of other lists than a text's: the definition has it.
 #[derive(Clone, Copy)]
 pub enum Cause {
     TooLong,
@@ -66,96 +65,58 @@ pub enum Cause {
     Elsewhere,
 }
 
-// A cause, and the word of the line that it speaks of, counted from 1; 0 for none.
+// A cause, and the word of the line that it speaks of, counted from 1, if it speaks of one.
 #[derive(Clone, Copy)]
 pub struct Fault {
     pub cause: Cause,
-    pub word: usize,
+    pub word: Option<usize>,
 }
 
-// Whether a line's words are what its form asks for.
-#[derive(Clone, Copy)]
-pub enum Formed {
-    Right,
-    Off(Fault),
-}
+impl From<Cause> for Fault {
+    ghost from_gives = { λ cause fault. fault ≡ whole cause };
 
-// The form that a line's first word names.
-#[derive(Clone, Copy)]
-pub enum Lettered {
-    Of(Form),
-    Unknown,
-}
-
-// A word is one of its kind.
-fn is_kind(input: &[u8], from: usize, to: usize, kind: Kind) -> bool
-    requires { (from ≤ to) × (to ≤ length input.now) }
-    ensures { result ≡ is_said (value_said kind (slice from to input.now)) }
-{
-    match said(input, from, to, kind) {
-        Value::Is(_) => true,
-        Value::Not => false,
+    // A cause that speaks of no word.
+    fn from(cause: Cause) -> Fault {
+        Fault { cause, word: None }
     }
 }
 
 // A word is a number, and not over `most`.
-fn is_at_most(input: &[u8], from: usize, to: usize, most: u32) -> bool
-    requires { (from ≤ to) × (to ≤ length input.now) }
-    ensures { result ≡ is_at_most most (slice from to input.now) }
+fn is_at_most(word: &[u8], most: u32) -> bool
+    ensures { result ≡ is_at_most most word.now }
 {
-    let Value::Is(x) = said(input, from, to, Kind::Number) else {
-        return false;
-    };
-    x <= most
+    number(word).is_some_and(|x| x <= most)
 }
 
-// A word is what it must be.
-fn is_wanted(input: &[u8], from: usize, to: usize, want: Want) -> bool
-    requires { (from ≤ to) × (to ≤ length input.now) }
-    ensures { result ≡ meets want (slice from to input.now) }
+// A word is what it must be. A match and no table of functions, here and below: a table handed out may hold none.
+#[tactic(auto, using(text::proofs::Cuts::same_is, crate::proofs::LineFault::junction_met, crate::proofs::LineFault::cost_met))]
+fn is_wanted(word: &[u8], want: Want) -> bool
+    ensures { result ≡ meets want word.now }
 {
     match want {
-        Want::Sp => is_kind(input, from, to, Kind::Sp),
-        Want::Junctions => is_at_most(input, from, to, 256),
-        Want::Arcs => is_at_most(input, from, to, 1024),
-        Want::Junction => is_kind(input, from, to, Kind::Junction),
-        Want::Cost => is_kind(input, from, to, Kind::Cost),
-        Want::NoMore => false,
+        Want::Sp => word == b"sp".as_slice(),
+        Want::Junctions => is_at_most(word, 256),
+        Want::Arcs => is_at_most(word, 1024),
+        Want::Junction => junction(word).is_some(),
+        Want::Cost => cost(word).is_some(),
     }
 }
 
-// What the word number k behind the letter must be, from 0.
-fn want_at(form: Form, k: usize) -> Want
-    ensures { result ≡ want_at form k }
+// What the words behind the letter must be: `p sp n m`, `a tail head cost`, `o junction`, `q from to`.
+fn wants(form: Form) -> &'static [Want]
+    ensures { result.now ≡ wants form }
 {
     match form {
-        Form::Problem => match k {
-            0 => Want::Sp,
-            1 => Want::Junctions,
-            2 => Want::Arcs,
-            _ => Want::NoMore,
-        },
-        Form::Arc => match k {
-            0 => Want::Junction,
-            1 => Want::Junction,
-            2 => Want::Cost,
-            _ => Want::NoMore,
-        },
-        Form::Seat => match k {
-            0 => Want::Junction,
-            _ => Want::NoMore,
-        },
-        Form::Question => match k {
-            0 => Want::Junction,
-            1 => Want::Junction,
-            _ => Want::NoMore,
-        },
+        Form::Problem => &[Want::Sp, Want::Junctions, Want::Arcs],
+        Form::Arc => &[Want::Junction, Want::Junction, Want::Cost],
+        Form::Seat => &[Want::Junction],
+        Form::Question => &[Want::Junction, Want::Junction],
     }
 }
 
 // Why a word that is not what it must be is refused.
-fn not_met(form: Form, want: Want) -> Cause
-    ensures { result ≡ not_met form want }
+fn not_met(want: Want) -> Cause
+    ensures { result ≡ not_met want }
 {
     match want {
         Want::Sp => Cause::NotSp,
@@ -163,222 +124,144 @@ fn not_met(form: Form, want: Want) -> Cause
         Want::Arcs => Cause::NotArcs,
         Want::Junction => Cause::NotJunction,
         Want::Cost => Cause::NotCost,
-        Want::NoMore => Cause::TooMany(form),
     }
 }
 
-// The first word behind the letter, from `from` on, that is not what the form asks for, or that is missing.
-fn first_off(input: &[u8], from: usize, end: usize, form: Form) -> Formed
-    requires { end < length input.now }
-    ensures { result ≡ first_off form 0 (words_from input.now end from) }
+// Looks for the first word behind the letter that is not what the form asks for, that is missing, or that is one too many.
+#[tactic(auto, using(crate::proofs::LineFault::off_missing, crate::proofs::LineFault::off_on))]
+fn first_off(mut words: Parts, form: Form) -> Result<(), Fault>
+    ensures { result ≡ first_off form 0 (parts_left words.entry) }
 {
-    let mut at = from;
-    let mut k = 0;
-    while at <= end {
-        let to = part_end(input, at, end, b' ');
-        let want = want_at(form, k);
-        if !is_wanted(input, at, to, want) {
-            return Formed::Off(Fault {
-                cause: not_met(form, want),
-                word: k + 2,
+    let wanted = wants(form);
+    for (k, want) in wanted.iter().enumerate() {
+        let Some(word) = words.next() else {
+            return Err(Fault::from(Cause::TooFew(form)));
+        };
+        if !is_wanted(word, *want) {
+            return Err(Fault {
+                cause: not_met(*want),
+                word: Some(k + 2),
             });
         }
-        at = to + 1;
-        k += 1;
     }
-    match want_at(form, k) {
-        Want::NoMore => Formed::Right,
-        _ => Formed::Off(Fault {
-            cause: Cause::TooFew(form),
-            word: 0,
+    match words.next() {
+        None => Ok(()),
+        Some(_) => Err(Fault {
+            cause: Cause::TooMany(form),
+            word: Some(wanted.len() + 2),
         }),
     }
 }
 
 // The form that a line's first word names.
-fn letter_of(input: &[u8], from: usize, to: usize) -> Lettered
-    requires { (from ≤ to) × (to ≤ length input.now) }
-    ensures { result ≡ letter_of (slice from to input.now) }
+#[tactic(auto, using(crate::proofs::LineFault::no_letter, crate::proofs::LineFault::letter_lem))]
+fn letter_of(word: &[u8]) -> Option<Form>
+    ensures { result ≡ letter_of word.now }
 {
-    if is_byte(input, from, to, b'p') {
-        return Lettered::Of(Form::Problem);
+    let [letter] = word else {
+        return None;
+    };
+    match *letter {
+        b'p' => Some(Form::Problem),
+        b'a' => Some(Form::Arc),
+        b'o' => Some(Form::Seat),
+        b'q' => Some(Form::Question),
+        _ => None,
     }
-    if is_byte(input, from, to, b'a') {
-        return Lettered::Of(Form::Arc);
-    }
-    if is_byte(input, from, to, b'o') {
-        return Lettered::Of(Form::Seat);
-    }
-    if is_byte(input, from, to, b'q') {
-        return Lettered::Of(Form::Question);
-    }
-    Lettered::Unknown
 }
 
-// A cause that speaks of no word.
-fn plain(cause: Cause) -> Fault
-    ensures { result ≡ record { cause = cause; word = 0 } }
+// An order entry that may not stand behind `p` where it does: before the last arc, or behind the last entry.
+fn seat_place(state: State, sizes: Sizes) -> Cause
+    ensures { result ≡ seat_place state sizes }
 {
-    Fault { cause, word: 0 }
+    if state.listed != sizes.arcs {
+        return Cause::ArcsShort(sizes.arcs, state.listed);
+    }
+    Cause::SeatTooMany(sizes.junctions)
 }
 
-// An arc that may not stand where it does: before `p`, or behind the last arc.
-fn arc_place(state: State) -> Cause
-    ensures { result ≡ arc_place state }
+// A question likewise: before the last arc, before the last order entry, or behind 64 others.
+fn question_place(state: State, sizes: Sizes) -> Cause
+    ensures { result ≡ question_place state sizes }
 {
-    let started = state.started;
-    if !started {
-        return Cause::BeforeProblem;
+    if state.listed != sizes.arcs {
+        return Cause::ArcsShort(sizes.arcs, state.listed);
     }
-    Cause::ArcTooMany(state.arcs)
-}
-
-// An order entry likewise: before `p`, before the last arc, or behind the last entry.
-fn seat_place(state: State) -> Cause
-    ensures { result ≡ seat_place state }
-{
-    let started = state.started;
-    if !started {
-        return Cause::BeforeProblem;
-    }
-    if state.listed != state.arcs {
-        return Cause::ArcsShort(state.arcs, state.listed);
-    }
-    Cause::SeatTooMany(state.junctions)
-}
-
-// A question likewise: before `p`, before the last arc, before the last order entry, or behind 64 others.
-fn question_place(state: State) -> Cause
-    ensures { result ≡ question_place state }
-{
-    let started = state.started;
-    if !started {
-        return Cause::BeforeProblem;
-    }
-    if state.listed != state.arcs {
-        return Cause::ArcsShort(state.arcs, state.listed);
-    }
-    if state.seated != state.junctions {
-        return Cause::OrderShort(state.junctions, state.seated);
+    if state.seated != sizes.junctions {
+        return Cause::OrderShort(sizes.junctions, state.seated);
     }
     Cause::QuestionTooMany
 }
 
-// Why a line of a right form may not stand where it does.
+// Why a line of a right form may not stand where it does: a second `p`, a line before `p`, or what the numbers of `p` refuse.
 fn place_fault(form: Form, state: State) -> Fault
     ensures { result ≡ place_fault form state }
 {
-    match form {
-        Form::Problem => plain(Cause::SecondProblem),
-        Form::Arc => plain(arc_place(state)),
-        Form::Seat => plain(seat_place(state)),
-        Form::Question => plain(question_place(state)),
-    }
+    Fault::from(match (form, state.sizes) {
+        (Form::Problem, _) => Cause::SecondProblem,
+        (_, None) => Cause::BeforeProblem,
+        (Form::Arc, Some(sizes)) => Cause::ArcTooMany(sizes.arcs),
+        (Form::Seat, Some(sizes)) => seat_place(state, sizes),
+        (Form::Question, Some(sizes)) => question_place(state, sizes),
+    })
 }
 
 // Why the words of a line are refused, or its place if they are right.
-fn words_fault(input: &[u8], at: usize, end: usize, state: State) -> Fault
-    requires { (at ≤ end) × (end < length input.now) }
-    ensures { result ≡ words_fault state (words (slice at end input.now)) }
+fn words_fault(line: &[u8], state: State) -> Fault
+    ensures { result ≡ words_fault state (words line.now) }
 {
-    let to = part_end(input, at, end, b' ');
-    let Lettered::Of(form) = letter_of(input, at, to) else {
+    let mut words = Parts::new(line, b' ');
+    let Some(form) = words.next().and_then(letter_of) else {
         return Fault {
             cause: Cause::Letter,
-            word: 1,
+            word: Some(1),
         };
     };
-    let Formed::Off(fault) = first_off(input, to + 1, end, form) else {
-        return place_fault(form, state);
-    };
-    fault
-}
-
-// A line begins with the byte order mark that some editors write.
-fn begins_with_mark(input: &[u8], at: usize, end: usize) -> bool
-    requires { (at ≤ end) × (end ≤ length input.now) }
-    ensures { result ≡ begins_with_mark (slice at end input.now) }
-{
-    if end - at < 3 {
-        return false;
+    match first_off(words, form) {
+        Ok(()) => place_fault(form, state),
+        Err(fault) => fault,
     }
-    if input[at] != 0xef {
-        return false;
-    }
-    if input[at + 1] != 0xbb {
-        return false;
-    }
-    input[at + 2] == 0xbf
-}
-
-// A line's last byte is CR.
-fn ends_in_cr(input: &[u8], at: usize, end: usize) -> bool
-    requires { (at ≤ end) × (end ≤ length input.now) }
-    ensures { result ≡ ends_in_cr (slice at end input.now) }
-{
-    if at == end {
-        return false;
-    }
-    input[end - 1] == b'\r'
-}
-
-// A byte stands in a line.
-fn has_byte(input: &[u8], at: usize, end: usize, byte: u8) -> bool
-    requires { (at ≤ end) × (end ≤ length input.now) }
-    ensures { result ≡ holds byte (slice at end input.now) }
-{
-    part_end(input, at, end, byte) < end
 }
 
 // Two spaces stand in a row, or one at an end.
-fn has_empty_word(input: &[u8], at: usize, end: usize) -> bool
-    requires { (at ≤ end) × (end < length input.now) }
-    ensures { result ≡ any_empty (words (slice at end input.now)) }
+fn has_empty_word(line: &[u8]) -> bool
+    ensures { result ≡ any_empty (words line.now) }
 {
-    let mut from = at;
-    while from <= end {
-        let to = part_end(input, from, end, b' ');
-        if to == from {
-            return true;
-        }
-        from = to + 1;
-    }
-    false
+    Parts::new(line, b' ').any(|word| word.is_empty())
 }
 
 // Why a line that ends with LF is refused, after lines that say `state`.
-pub fn line_fault(input: &[u8], at: usize, end: usize, state: State) -> Fault
-    requires { (at ≤ end) × (end < length input.now) }
-    ensures { result ≡ line_fault state (slice at end input.now) }
+#[tactic(auto, using(crate::proofs::LineFault::line_lem))]
+pub fn line_fault(line: &[u8], state: State) -> Fault
+    ensures { result ≡ line_fault state line.now }
 {
-    if begins_with_mark(input, at, end) {
-        return plain(Cause::ByteOrderMark);
+    if line.starts_with(b"\xef\xbb\xbf") {
+        return Fault::from(Cause::ByteOrderMark);
     }
-    if ends_in_cr(input, at, end) {
-        return plain(Cause::CarriageReturn);
+    if line.ends_with(b"\r") {
+        return Fault::from(Cause::CarriageReturn);
     }
-    if has_byte(input, at, end, b'\t') {
-        return plain(Cause::Tab);
+    if line.contains(&b'\t') {
+        return Fault::from(Cause::Tab);
     }
-    if at == end {
-        return plain(Cause::Empty);
+    if line.is_empty() {
+        return Fault::from(Cause::Empty);
     }
-    if has_empty_word(input, at, end) {
-        return plain(Cause::Spaces);
+    if has_empty_word(line) {
+        return Fault::from(Cause::Spaces);
     }
-    words_fault(input, at, end, state)
+    words_fault(line, state)
 }
 
-// Why a text may not end after lines that say `state`.
+// Why a text may not end after lines that say `state`: `p`, an arc or an order entry is missing.
 pub fn end_fault(state: State) -> Fault
     ensures { result ≡ end_fault state }
 {
-    let started = state.started;
-    if !started {
-        return plain(Cause::NoProblem);
+    let Some(sizes) = state.sizes else {
+        return Fault::from(Cause::NoProblem);
+    };
+    if state.listed != sizes.arcs {
+        return Fault::from(Cause::EndsInArcs(sizes.arcs, state.listed));
     }
-    if state.listed != state.arcs {
-        return plain(Cause::EndsInArcs(state.arcs, state.listed));
-    }
-    plain(Cause::EndsInOrder(state.junctions, state.seated))
+    Fault::from(Cause::EndsInOrder(sizes.junctions, state.seated))
 }

@@ -3,6 +3,7 @@
 use Prim.Native.Nat.{ℕ, zero, suc, ◌+◌, ◌*◌, ◌/◌, ◌%◌, ◌^◌, ◌≤◌, ◌<◌}
 use mathlib.Core.Path.{◌≡◌, refl, sym, ap, ◌∙◌, subst}
 use mathlib.Core.Logic.{◌⊎◌, inl, inr}
+use mathlib.Core.Bool.{Bool, false}
 use mathlib.Core.List.{List}
 use native.Mathlib.Omega.{arith}
 use native.Mathlib.Numerals.{add-one}
@@ -11,7 +12,8 @@ use lib.Dec.{T, ltb}
 use lib.ListN.{length, get_or, set, replicate, length-replicate}
 use borrow.Author.Tests.{ltb-true, ltb-false}
 use Rattle.rules.specs.Words.{total}
-use Rattle.rules.specs.Net.{net, road_between}
+use Rattle.rules.specs.Net.{Net, road_between}
+use Rattle.roads.specs.declared.Roads.{Roads}
 use Rattle.rules.specs.Graph.{Graph}
 use Rattle.rules.specs.Hierarchy.{EdgeCosts, edge_costs, linked, held}
 use Rattle.rules.specs.Changed.{differs, triangles_from, triangles, looked_at}
@@ -28,93 +30,92 @@ use Rattle.turns.proofs.Waiting.{turn_of, waiting_none, waiting_next, wait_range
 use Rattle.reconsider.specs.Flags.{flagged}
 use Rattle.reconsider.specs.Marks.{says, Clear}
 use Rattle.reconsider.specs.Reaches.{Reaches, Begins, Top}
-use Rattle.reconsider.proofs.Said.{says_e, says_same}
+use Rattle.reconsider.proofs.Said.{says_no, says_same}
 use Rattle.change.specs.Turning.{new_of, again, Ways, Standing, Carriage, Ready, Stepped}
 use Rattle.change.specs.Carrying.{Carried}
 use Rattle.change.proofs.Counted.{total_to}
 use Rattle.change.proofs.Turned.{stays, uncounted}
 
--- ---- lists of zeros
+-- ---- lists of one value throughout
 
-zeros_at : (n k : ℕ) → ◌≡◌ {A = ℕ} (get_or (replicate n 0) k 0) 0
-zeros_at zero k = refl
-zeros_at (suc n) zero = refl
-zeros_at (suc n) (suc k) = zeros_at n k
+same_at : {A : Type 0} (v : A) (n k : ℕ) → get_or (replicate n v) k v ≡ v
+same_at v zero k = refl
+same_at v (suc n) zero = refl
+same_at v (suc n) (suc k) = same_at v n k
 
--- say yes of none
-pub zeros_clear : (l : List ℕ) → l ≡ replicate 4096 0 → Clear l
-zeros_clear l e =
+-- a list of noes says yes of none
+pub noes_clear : (l : List Bool) → l ≡ replicate 4096 false → Clear l
+noes_clear l e =
     record {
-      long = ap length e ∙ length-replicate {A = ℕ} 4096 0;
-      none = λ y t. says_e l y t (ap (λ v. get_or v y 0) e ∙ zeros_at 4096 y);
+      long = ap length e ∙ length-replicate {A = Bool} 4096 false;
+      none = λ y. says_no l y (ap (λ v. get_or v y false) e ∙ same_at false 4096 y);
     }
 
--- and flag none
+-- and words of zero flag none
 zeros_flag : (l : List ℕ) (n k : ℕ) → l ≡ replicate n 0 → T (flagged l k) → ⊥
 unfolding flagged
 zeros_flag l n k e t =
-    let z : get_or l (k / 64) 0 ≡ 0 = ap (λ v. get_or v (k / 64) 0) e ∙ zeros_at n (k / 64) in
+    let z : get_or l (k / 64) 0 ≡ 0 = ap (λ v. get_or v (k / 64) 0) e ∙ same_at 0 n (k / 64) in
     let w : get_or l (k / 64) 0 / 2 ^ (k % 64) % 2 ≡ 0 = ap (λ v. v / 2 ^ (k % 64) % 2) z ∙ ap (λ v. v % 2) (zero-div (2 ^ (k % 64))) in
     omega (arith, eqb_e (get_or l (k / 64) 0 / 2 ^ (k % 64) % 2) 1 t)
 
 -- what is asked of the row of x before it is put where it waits
-pub carrying_wait : {G : Graph} {on : List ℕ} {x i : ℕ} → Turn G x → Begins G on x i → (x + 1 < length G.first) × (i ≤ get_or G.first (x + 1) 0)
+pub carrying_wait : {G : Graph} {on : List Bool} {x i : ℕ} → Turn G x → Begins G on x i → (x + 1 < length G.first) × (i ≤ get_or G.first (x + 1) 0)
 carrying_wait {G} {x = x} U B = (omega (arith, U.under, U.rows.long), omega (arith, B.to, next_row G x))
 
 -- ---- before the turn of x
 
-pub record Carrying (heads costs order at next : List ℕ) (G : Graph) (lo hi : ℕ) (on : List ℕ) (C₀ : EdgeCosts) (words x reach seen : ℕ) (C : EdgeCosts)
-    (flags dirty marks : List ℕ) (D : EdgeCosts) (todo links places met spots : List ℕ) : Type 0 where
+pub record Carrying (N : Net) (G : Graph) (lo hi : ℕ) (on : List Bool) (C₀ : EdgeCosts) (words x reach seen : ℕ) (C : EdgeCosts)
+    (flags : List ℕ) (dirty marks : List Bool) (D : EdgeCosts) (todo links places : List ℕ) : Type 0 where
   pub reaches : Reaches G lo on
   pub within : x ≤ count G.first
   pub from : lo ≤ reach
   pub under : reach < count G.first
   pub waits : Waiting G x (get_or links x 0) links places
   pub skipped : (z i : ℕ) → z < x → InRow G z i → InRow G z (i + 1) → i < get_or places z 0 → (get_or G.heads i 0 < x) ⊎ (T (says on (get_or G.heads i 0)) → ⊥)
-  pub met_long : length met ≡ 4096
-  pub spots_long : length spots ≡ 4096
   pub ready : Ready G flags dirty marks D todo
   pub words_are : length flags ≡ words
   pub clean : (z : ℕ) → x ≤ z → T (says dirty z) → ⊥
   pub covered : (z k : ℕ) → z < x → InRow G z k → T (says dirty z) → get_or G.heads k 0 ≤ reach
   pub kept : Kept G C₀ C
   pub small : seen ≤ 16777216 * x
-  pub turned : (tails : List ℕ) (before : ℕ → ℕ → ℕ) → Ways (net tails heads costs order) at next lo hi before
-      → Standing G before (road_between (net tails heads costs order)) C₀ x C flags
-      × (seen ≡ total (triangles_from (linked G) (again G before (road_between (net tails heads costs order)) C₀) (count G.first)) x)
+  pub turned : (before : ℕ → ℕ → ℕ) → Ways N lo hi before
+      → Standing G before (road_between N) C₀ x C flags
+      × (seen ≡ total (triangles_from (linked G) (again G before (road_between N) C₀) (count G.first)) x)
 
-module _ {heads costs order at next : List ℕ} {G : Graph} {C₀ : EdgeCosts} {words lo hi : ℕ} (A : Carriage heads costs order at next G C₀ words lo hi) where
+module _ {N : Net} {threads : Roads} {G : Graph} {C₀ : EdgeCosts} {words lo hi : ℕ} (A : Carriage N threads G C₀ words lo hi) where
   -- the lower end of the edge whose road changed is a position
   pub lo_turn : Turn G lo
   lo_turn = turn_of A.lists (linked_two A.lists.rows lo hi A.edge).0
 
-  pub carrying_start : {on flags : List ℕ} (zeros : List ℕ) → zeros ≡ replicate 4096 0 → Reaches G lo on → length flags ≡ words → flags ≡ replicate (length flags) 0
-      → Carrying heads costs order at next G lo hi on C₀ words 0 lo 0 C₀ flags zeros zeros (edge_costs zeros zeros) zeros zeros zeros zeros zeros
+  pub carrying_start : {on : List Bool} {flags : List ℕ} (zeros : List ℕ) (noes : List Bool) {links places : List ℕ} → zeros ≡ replicate 4096 0
+      → noes ≡ replicate 4096 false → links ≡ replicate 4096 0 → places ≡ replicate 4096 0 → Reaches G lo on → length flags ≡ words
+      → flags ≡ replicate (length flags) 0
+      → Carrying N G lo hi on C₀ words 0 lo 0 C₀ flags noes noes (edge_costs zeros zeros) zeros links places
   unfolding total
-  carrying_start {flags = flags} zeros e H ew ef =
-      let c = zeros_clear zeros e in
+  carrying_start {flags = flags} zeros noes {links} {places} ez en el ep H ew ef =
+      let c = noes_clear noes en in
+      let long = ap length ez ∙ length-replicate {A = ℕ} 4096 0 in
       let never : (k : ℕ) → T (flagged flags k) → ⊥ = λ k t. zeros_flag flags (length flags) k ef t in
       record {
         reaches = H;
         within = omega arith;
         from = omega arith;
         under = lo_turn.under;
-        waits = waiting_none zeros zeros e c.long;
+        waits = waiting_none links places el (ap length ep ∙ length-replicate {A = ℕ} 4096 0);
         skipped = λ z i h. absurd (omega arith);
-        met_long = c.long;
-        spots_long = c.long;
         ready = record {
           dirt = record { long = c.long; shown = λ z k h r t. absurd (never k t) };
           clear = c;
-          seats = record { up_long = c.long; down_long = c.long };
-          todo_long = c.long;
+          seats = record { up_long = long; down_long = long };
+          todo_long = long;
         };
         words_are = ew;
         clean = λ z h t. c.none z t;
         covered = λ z k h. absurd (omega arith);
         kept = kept_none G C₀;
         small = omega arith;
-        turned = λ tails before w. (
+        turned = λ before w. (
           record {
             kept = kept_none G C₀;
             lower = λ p k h. absurd (omega arith);
@@ -126,10 +127,10 @@ module _ {heads costs order at next : List ℕ} {G : Graph} {C₀ : EdgeCosts} {
         );
       }
 
-  module _ {on : List ℕ} {x reach seen : ℕ} {C : EdgeCosts} {flags dirty marks : List ℕ} {D : EdgeCosts} {todo links places met spots : List ℕ}
-      (K : Carrying heads costs order at next G lo hi on C₀ words x reach seen C flags dirty marks D todo links places met spots) where
+  module _ {on : List Bool} {x reach seen : ℕ} {C : EdgeCosts} {flags : List ℕ} {dirty marks : List Bool} {D : EdgeCosts} {todo links places : List ℕ}
+      (K : Carrying N G lo hi on C₀ words x reach seen C flags dirty marks D todo links places) where
     -- what is carried is as before
-    pub carrying_carriage : Carriage heads costs order at next G C (length flags) lo hi
+    pub carrying_carriage : Carriage N threads G C (length flags) lo hi
     carrying_carriage =
         record {
           lists = lists_kept A.lists K.kept;
@@ -141,7 +142,7 @@ module _ {heads costs order at next : List ℕ} {G : Graph} {C₀ : EdgeCosts} {
         }
 
     -- only a row with edges has a changed one
-    pub carrying_full : {r : ℕ} {C' : EdgeCosts} {flags' dirty' : List ℕ} → Stepped heads costs order at next G lo hi x C flags dirty C' flags' dirty' seen r
+    pub carrying_full : {r : ℕ} {C' : EdgeCosts} {flags' : List ℕ} {dirty' : List Bool} → Stepped N G lo hi x C flags dirty C' flags' dirty' seen r
         → T (says dirty' x) → get_or G.first x 0 < get_or G.first (x + 1) 0
     carrying_full Z t = either (Z.dirty_full t) (λ u. absurd (K.clean x (omega arith) u)) (λ h. h)
 
@@ -173,11 +174,11 @@ module _ {heads costs order at next : List ℕ} {G : Graph} {C₀ : EdgeCosts} {
           (carrying_turn, omega (arith, B.from), h)
 
       -- the next turn
-      pub carrying_more : {m reach' b i seen' : ℕ} {C' : EdgeCosts} {flags' dirty' marks' : List ℕ} {D' : EdgeCosts} {todo' links₁ places₁ met' spots' links' places' : List ℕ}
+      pub carrying_more : {m reach' b i seen' : ℕ} {C' : EdgeCosts} {flags' : List ℕ} {dirty' marks' : List Bool} {D' : EdgeCosts} {todo' links₁ places₁ met' spots' links' places' : List ℕ}
           → Waiting G x 0 links₁ places₁ → Gathered G x places m met' spots' places₁
-          → Stepped heads costs order at next G lo hi x C flags dirty C' flags' dirty' seen seen' → Ready G flags' dirty' marks' D' todo'
+          → Stepped N G lo hi x C flags dirty C' flags' dirty' seen seen' → Ready G flags' dirty' marks' D' todo'
           → Top G dirty' x reach reach' → Begins G on x b → i ≡ wait_at G.first x b → links' ≡ queued G links₁ x i → places' ≡ set places₁ x i
-          → Carrying heads costs order at next G lo hi on C₀ words (x + 1) reach' seen' C' flags' dirty' marks' D' todo' links' places' met' spots'
+          → Carrying N G lo hi on C₀ words (x + 1) reach' seen' C' flags' dirty' marks' D' todo' links' places'
       unfolding total
       carrying_more {b = b} {dirty' = dirty'} {places₁ = places₁} {places' = places'} W M Z E P B ei el ep =
           let U = carrying_turn in
@@ -198,8 +199,6 @@ module _ {heads costs order at next : List ℕ} {G : Graph} {C₀ : EdgeCosts} {
                 either (M.moved z i (omega arith) r q (omega (arith, s.off z f)))
                 (λ u. either (K.skipped z i (omega arith) r q u) (λ v. inl (omega arith)) (λ v. inr v))
                 (λ u. inl (omega arith)));
-            met_long = M.met_rows.met_long;
-            spots_long = M.met_rows.at_long;
             ready = E;
             words_are = Z.words ∙ K.words_are;
             clean = λ z h t. K.clean z (omega arith) (says_same dirty' dirty z (sym (Z.dirty_off z (λ f. omega arith))) t);
@@ -209,19 +208,19 @@ module _ {heads costs order at next : List ℕ} {G : Graph} {C₀ : EdgeCosts} {
                 (λ f. omega (arith, P.grows, K.covered z k (omega arith) r (says_same dirty' dirty z (sym (Z.dirty_off z f)) t)));
             kept = kept_on K.kept Z.kept;
             small = omega (arith, K.small, Z.few);
-            turned = λ tails before w.
-                let f = triangles_from (linked G) (again G before (road_between (net tails heads costs order)) C₀) (count G.first) in
-                let (S, e) = K.turned tails before w in
-                let (S', d) = Z.turned tails before C₀ w S in
+            turned = λ before w.
+                let f = triangles_from (linked G) (again G before (road_between N) C₀) (count G.first) in
+                let (S, e) = K.turned before w in
+                let (S', d) = Z.turned before C₀ w S in
                 let t : total f (suc x) ≡ total f x + f x = refl in
                 (S', omega (arith, ap (total f) (add-one x)));
           }
 
     -- ---- after the last turn
 
-    module _ (end : reach < x) (tails : List ℕ) (before : ℕ → ℕ → ℕ) (w : Ways (net tails heads costs order) at next lo hi before) where
+    module _ (end : reach < x) (before : ℕ → ℕ → ℕ) (w : Ways N lo hi before) where
       abbrev after : ℕ → ℕ → ℕ
-      after = road_between (net tails heads costs order)
+      after = road_between N
 
       abbrev new : ℕ → ℕ → ℕ
       new = new_of G before after C₀
@@ -230,7 +229,7 @@ module _ {heads costs order at next : List ℕ} {G : Graph} {C₀ : EdgeCosts} {
       Reason = Why (linked G) before after (held G C₀) new
 
       abbrev S : Standing G before after C₀ x C flags
-      S = (K.turned tails before w).0
+      S = (K.turned before w).0
 
       -- a changed edge of a row that had its turn ends no higher than the change can reach
       low_end : (z y : ℕ) → z < x → z < y → T (linked G z y) → T (differs (held G C₀) new z y) → y ≤ reach
@@ -271,11 +270,11 @@ module _ {heads costs order at next : List ℕ} {G : Graph} {C₀ : EdgeCosts} {
                 either (split (ltb p x))
                 (λ s. S.lower p k (ltb-true p x s) l r)
                 (λ s. let h = ltb-false p x s in stays L S p k h l r (rest p k h l r)),
-            (K.turned tails before w).1
+            (K.turned before w).1
                 ∙ sym (total_to f x n K.within
                 (λ p h l. uncounted L S p (λ k r. rest p k h l r))),
           )
 
     -- all turns
-    pub carrying_end : reach < x → Carried heads costs order at next G lo hi C₀ C seen
+    pub carrying_end : reach < x → Carried N G lo hi C₀ C seen
     carrying_end end = record { kept = K.kept; new = all_new end }

@@ -1,5 +1,5 @@
 -- A new cost of one arc: what it asks of the work behind it, and what the lists then are. Assumes nothing.
-use Prim.Native.Nat.{ℕ, ◌*◌, ◌≤◌, ◌<◌, min, max}
+use Prim.Native.Nat.{ℕ, ◌≤◌, ◌<◌, min, max}
 use mathlib.Core.Path.{◌≡◌, refl, sym, ap, ap₂, ◌∙◌, subst}
 use mathlib.Core.Logic.{inl, inr, ◌≢◌}
 use mathlib.Core.List.{List}
@@ -17,7 +17,6 @@ use Rattle.rules.specs.Changed.{differs, triangles, triangles_from, looked_at}
 use Rattle.rules.specs.Calls.{changed_cost, changed_costs, triangles_looked_at}
 use Rattle.theory.specs.Accepted.{LawfulCost, Accepted}
 use Rattle.theory.specs.Rows.{InRow, count}
-use Rattle.theory.specs.Threads.{Threaded}
 use Rattle.theory.proofs.Words.{either, split, same_or_not}
 use Rattle.theory.proofs.Totals.{total_none}
 use Rattle.theory.proofs.Rows.{count_is, lists_of, linked_turn, in_heads}
@@ -27,26 +26,13 @@ use Rattle.theory.proofs.CostLists.{list_of}
 use Rattle.theory.proofs.Changed.{why, calm_same, calm_why, differ_i, differ_e}
 use Rattle.theory.proofs.RoadsMove.{moved_two, moved_ends}
 use Rattle.theory.proofs.Standing.{road_small}
-use Rattle.lists.specs.Lent.{chosen}
+use Rattle.rules.specs.Lent.{chosen}
 use Rattle.turns.specs.Edges.{At, Kept}
-use Rattle.roads.specs.Roads.{ByTail, Roads}
-use Rattle.roads.proofs.ByTail.{tails_fall}
+use Rattle.roads.specs.declared.Roads.{Roads}
+use Rattle.roads.specs.Roads.{RoadsOf}
 use Rattle.change.specs.Turning.{new_of, again, Ways, Carriage}
 use Rattle.change.specs.Carrying.{Carried}
 use Rattle.change.proofs.Counted.{from_none}
-
--- fewer flags do, where the edges are fewer
-pub carriage_few : {heads costs order at next : List ℕ} {G : Graph} {C : EdgeCosts} {words lo hi : ℕ} → Carriage heads costs order at next G C words lo hi
-    → (w : ℕ) → get_or G.first (length order) 0 ≤ w * 64 → Carriage heads costs order at next G C w lo hi
-carriage_few {G = G} K w h =
-    record {
-      lists = K.lists;
-      size_is = K.size_is;
-      roads = K.roads;
-      flags_long = subst (λ n. get_or G.first n 0 ≤ w * 64) K.size_is h;
-      rising = K.rising;
-      edge = K.edge;
-    }
 
 -- with another lawful cost of one arc all is accepted as before
 accepted_with : {N : Net} {rank : List ℕ} {G : Graph} {C : EdgeCosts} → Accepted N rank G C → (arc cost : ℕ) → LawfulCost cost
@@ -74,27 +60,6 @@ accepted_with {N} A arc cost lawful =
 module _ {tails heads costs order rank : List ℕ} {G : Graph} {C : EdgeCosts} (A : Accepted (net tails heads costs order) rank G C) where
   abbrev N : Net
   N = net tails heads costs order
-
-  -- ---- the threads
-
-  -- every tail is a junction
-  pub tails_in : (i : ℕ) → i < length tails → get_or tails i 0 < 4096
-  tails_in i h = omega (arith, (A.ends_in i h).0, A.few)
-
-  module _ {at next : List ℕ} (T : Threaded (λ i. get_or tails i 0) 4096 16384 (length tails) at next) where
-    pub by_tail : ByTail tails heads at next
-    by_tail = (sym A.heads_long, subst (λ m. Threaded (λ i. get_or tails i 0) 4096 16384 m at next) (sym A.heads_long) T)
-
-    -- with any costs as many
-    pub roads : {costs' : List ℕ} → length costs' ≡ length costs → Roads heads costs' order at next
-    roads e =
-        record {
-          few = A.few;
-          seats = A.seats;
-          costs_long = e ∙ A.costs_long ∙ sym A.heads_long;
-          fit = omega (arith, A.fit, A.heads_long);
-          falls = rw A.heads_long (tails_fall tails at next (length tails) T tails_in);
-        }
 
   -- an arc's ends are junctions
   pub ends_in : (arc : ℕ) → arc < length tails → (get_or tails arc 0 < length rank) × (get_or heads arc 0 < length rank)
@@ -217,10 +182,9 @@ module _ {tails heads costs order rank : List ℕ} {G : Graph} {C : EdgeCosts} (
           let f : max a b ≡ a = omega arith in
           rw (e, f) q)
 
-      ways : LawfulCost cost → {at next : List ℕ} → ByTail tails heads at next → Ways M at next (min a b) (max a b) (road_between N)
-      ways lawful B =
+      ways : LawfulCost cost → Ways M (min a b) (max a b) (road_between N)
+      ways lawful =
           record {
-            threads = B;
             shut = road_small (accepted_with A arc cost lawful);
             only = λ p q l t.
                 either (differ_e (road_between N) (road_between M) p q t)
@@ -231,23 +195,22 @@ module _ {tails heads costs order rank : List ℕ} {G : Graph} {C : EdgeCosts} (
                 (differ_i (road_between N) (road_between M) b a (inr moved));
           }
 
-      pub carriage : {at next costs' : List ℕ} → Roads heads costs' order at next → Carriage heads costs' order at next G C 131072 (min a b) (max a b)
-      carriage R =
+      pub carriage : {threads : Roads} {lo hi : ℕ} → lo ≡ min a b → hi ≡ max a b → RoadsOf M threads → Carriage M threads G C 131072 lo hi
+      carriage el eh K =
           let j : T (linked G a b) = rw (a_is, b_is) (A.edges arc listed (λ e. apart (a_is ∙ ap (λ i. get_or rank i 0) e ∙ sym b_is))) in
-          record {
+          rw (el, eh) (record {
             lists = lists_of A.rows_of C A.few A.up_long A.down_long;
             size_is = sym (count_is A.rows_of);
-            roads = R;
+            roads = K;
             flags_long = let f = edges_few A.rows_of A.few in rw (count_is A.rows_of) f;
             rising = omega (arith, apart);
             edge = in_order (λ p q. T (linked G p q)) j (linked_turn G a b j);
-          }
+          })
 
       -- the lists are those of the definition, and so is the number
-      pub carried : LawfulCost cost → {at next : List ℕ} {C' : EdgeCosts} {r : ℕ} → ByTail tails heads at next
-          → Carried heads M.costs order at next G (min a b) (max a b) C C' r
+      pub carried : {lo hi : ℕ} → lo ≡ min a b → hi ≡ max a b → LawfulCost cost → {C' : EdgeCosts} {r : ℕ} → Carried M G lo hi C C' r
           → (C' ≡ changed_costs N G C arc cost) × (r ≡ triangles_looked_at N G C arc cost)
       unfolding triangles_looked_at
-      carried lawful {C' = C'} B K =
-          let (there, number) = K.new tails (road_between N) (ways lawful B) in
+      carried el eh lawful {C' = C'} K =
+          let (there, number) = K.new (road_between N) (rw (el, eh) (ways lawful)) in
           (changed_of C' K.kept there, number ∙ ap (looked_at (linked G) (road_between N) (road_between M) (held G C)) (count_is A.rows_of))

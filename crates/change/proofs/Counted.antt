@@ -60,7 +60,7 @@ from_none joined p n x h =
     let u : T (ltb x y && joined x y) = and_l (ltb x y && joined x y) (p x y) t in
     h y (ltb_e x y (and_l (ltb x y) (joined x y) u)) (and_r (ltb x y) (joined x y) u) (and_r (ltb x y && joined x y) (p x y) t)))
 
-module _ {n : ℕ} {G : Graph} (R : Rows n G) (x : ℕ) (marks : List ℕ) where
+module _ {n : ℕ} {G : Graph} (R : Rows n G) (x : ℕ) (marks : List Bool) where
   abbrev J : ℕ → ℕ → Bool
   J = linked G
 

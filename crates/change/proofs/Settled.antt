@@ -2,56 +2,41 @@
 use Prim.Native.Nat.{ℕ, ◌+◌, ◌*◌, ◌≤◌, ◌<◌}
 use mathlib.Core.Path.{◌≡◌, refl, sym, ap, ◌∙◌, subst}
 use mathlib.Core.Logic.{◌⊎◌, inl, inr, ◌≢◌}
-use mathlib.Core.Bool.{Bool, true, false, not, ◌||◌}
+use mathlib.Core.Bool.{Bool, true, false}
 use mathlib.Core.List.{List}
 use native.Mathlib.Omega.{arith}
-use lib.Dec.{T, eqb}
+use lib.Dec.{T}
 use lib.ListN.{length, get_or, set}
-use borrow.Author.Tests.{eqb-true, eqb-false}
 use Rattle.rules.specs.declared.Direction.{Direction}
 use Rattle.rules.specs.declared.Direction.TheVariants.{Up, Down}
 use Rattle.rules.specs.Graph.{Graph}
 use Rattle.rules.specs.Hierarchy.{EdgeCosts}
 use Rattle.theory.specs.Rows.{InRow, Lists, count}
-use Rattle.theory.proofs.Words.{either, split, true_false, same_or_not}
+use Rattle.theory.proofs.Words.{either, same_or_not}
 use Rattle.theory.proofs.Rows.{next_row, in_heads}
-use Rattle.lists.specs.Lent.{chosen}
+use Rattle.rules.specs.Lent.{chosen}
 use Rattle.turns.specs.Edges.{edges_of}
-use Rattle.turns.proofs.Stored.{stored}
 use Rattle.reconsider.specs.Flags.{flagged}
 use Rattle.reconsider.specs.Marks.{says}
 use Rattle.reconsider.proofs.Flags.{word_in}
-use Rattle.reconsider.proofs.Said.{says_e, says_same, said_here}
+use Rattle.reconsider.proofs.Said.{says_no, says_same, said, said_here}
 use Rattle.change.specs.Turning.{Listed, Settled, SettledAt, as_before, made_new, Spot, Cleared, Noted}
 use Rattle.change.proofs.Walked.{both_stored}
 
 -- ---- one edge
 
-module _ (C D : EdgeCosts) (k y : ℕ) {r : Bool}
-    (e : r ≡ (not (eqb (get_or C.up k 0) (get_or D.up y 0)) || not (eqb (get_or C.down k 0) (get_or D.down y 0)))) where
+module _ (C D : EdgeCosts) (k y : ℕ) where
+  abbrev Same_in : Direction → Type 0
+  Same_in d = get_or (chosen d C) k 0 ≡ get_or (chosen d D) y 0
+
   -- in one direction the cost is another
-  pub moved_e : r ≡ true → (d : Direction) × (get_or (chosen d C) k 0 ≢ get_or (chosen d D) y 0)
-  moved_e t =
-      either (split (eqb (get_or C.up k 0) (get_or D.up y 0)))
-      (λ s.
-      either (split (eqb (get_or C.down k 0) (get_or D.down y 0)))
-      (λ u. true_false (sym t ∙ e ∙ rw (s, u) refl))
-      (λ u. (Down, eqb-false (get_or C.down k 0) (get_or D.down y 0) u)))
-      (λ s. (Up, eqb-false (get_or C.up k 0) (get_or D.up y 0) s))
+  pub moved_way : (Same_in Up → ⊥) ⊎ (Same_in Up × (Same_in Down → ⊥)) → (d : Direction) × (get_or (chosen d C) k 0 ≢ get_or (chosen d D) y 0)
+  moved_way e = either e (λ n. (Up, n)) (λ n. (Down, n.1))
 
   -- it is the same in both
-  pub moved_n : r ≡ false → (d : Direction) → get_or (chosen d C) k 0 ≡ get_or (chosen d D) y 0
-  moved_n t =
-      either (split (eqb (get_or C.up k 0) (get_or D.up y 0)))
-      (λ s.
-      either (split (eqb (get_or C.down k 0) (get_or D.down y 0)))
-      (λ u. both (eqb-true (get_or C.up k 0) (get_or D.up y 0) s) (eqb-true (get_or C.down k 0) (get_or D.down y 0) u))
-      (λ u. true_false (sym (e ∙ rw (s, u) refl) ∙ t)))
-      (λ s. true_false (sym (e ∙ rw s refl) ∙ t))
-    where
-      both : get_or C.up k 0 ≡ get_or D.up y 0 → get_or C.down k 0 ≡ get_or D.down y 0 → (d : Direction) → get_or (chosen d C) k 0 ≡ get_or (chosen d D) y 0
-      both a b Up = a
-      both a b Down = b
+  pub moved_none : Same_in Up → Same_in Down → (d : Direction) → get_or (chosen d C) k 0 ≡ get_or (chosen d D) y 0
+  moved_none a b Up = a
+  moved_none a b Down = b
 
 -- ---- the list
 
@@ -70,49 +55,50 @@ module _ {G : Graph} {x : ℕ} {todo : List ℕ} where
   done_more : {t q : ℕ} → Done G x todo t q → Done G x todo (t + 1) q
   done_more a = record { at = a.at; soon = omega (arith, a.soon); there = a.there }
 
-  module _ {t k : ℕ} (ek : k ≡ get_or todo t 0) where
-    -- one of the first t + 1 that is not the last of them is one of the first t
-    done_back : {q : ℕ} → Done G x todo (t + 1) q → q ≢ k → Done G x todo t q
-    done_back a n =
-        either (same_or_not a.at t)
-        (λ d. absurd (n (sym a.there ∙ ap (λ v. get_or todo v 0) d ∙ sym ek)))
-        (λ d. record { at = a.at; soon = omega (arith, a.soon); there = a.there })
+  -- one of the first t + 1 that is not the last of them is one of the first t
+  done_back : {t q : ℕ} → Done G x todo (t + 1) q → q ≢ get_or todo t 0 → Done G x todo t q
+  done_back {t} a n =
+      either (same_or_not a.at t)
+      (λ d. absurd (n (sym a.there ∙ ap (λ v. get_or todo v 0) d)))
+      (λ d. record { at = a.at; soon = omega (arith, a.soon); there = a.there })
 
-    -- which the last is not
-    done_yet : {marks : List ℕ} {c : ℕ} → Listed G marks x todo c → t < c → Done G x todo t k → ⊥
-    done_yet L l a = omega (arith, L.once a.at t a.soon l, a.there)
+  -- which the last is not
+  done_yet : {t : ℕ} {marks : List Bool} {c : ℕ} → Listed G marks x todo c → t < c → Done G x todo t (get_or todo t 0) → ⊥
+  done_yet {t} L l a = omega (arith, L.once a.at t a.soon l, a.there)
 
 -- ---- the marks
 
 -- the first t listed edges of the row of x are not marked any more, and nothing is marked anew
-pub record Clearing (G : Graph) (x : ℕ) (todo : List ℕ) (t : ℕ) (marks₀ marks : List ℕ) : Type 0 where
+pub record Clearing (G : Graph) (x : ℕ) (todo : List ℕ) (t : ℕ) (marks₀ marks : List Bool) : Type 0 where
   pub long : length marks ≡ length marks₀
   pub gone : (q : ℕ) → Done G x todo t q → T (says marks (get_or G.heads q 0)) → ⊥
   pub less : (y : ℕ) → T (says marks y) → T (says marks₀ y)
 
 -- one more whose mark is taken away
-clearing_more : {G : Graph} {x : ℕ} {todo : List ℕ} {t k y : ℕ} {marks₀ marks marks' : List ℕ} → Clearing G x todo t marks₀ marks
-    → k ≡ get_or todo t 0 → y ≡ get_or G.heads k 0 → y < length marks₀ → marks' ≡ set marks y 0 → Clearing G x todo (t + 1) marks₀ marks'
-clearing_more {G} {k = k} {y = y} {marks = marks} {marks' = marks'} K ek ey b em =
-    let s = stored marks marks' y 0 em (omega (arith, K.long)) in
+clearing_more : {G : Graph} {x : ℕ} {todo : List ℕ} {t : ℕ} {marks₀ marks marks' : List Bool} → Clearing G x todo t marks₀ marks
+    → let y = get_or G.heads (get_or todo t 0) 0 in y < length marks₀ → marks' ≡ set marks y false → Clearing G x todo (t + 1) marks₀ marks'
+clearing_more {G} {todo = todo} {t = t} {marks = marks} {marks' = marks'} K b em =
+    let k = get_or todo t 0 in
+    let y = get_or G.heads k 0 in
+    let s = said marks marks' y false em (omega (arith, K.long)) in
     let fewer : (q : ℕ) → T (says marks' q) → T (says marks q) =
     λ q t. either (same_or_not q y)
-    (λ d. absurd (says_e marks' q t (ap (λ v. get_or marks' v 0) d ∙ s.here)))
+    (λ d. absurd (says_no marks' q (ap (λ v. get_or marks' v false) d ∙ s.here) t))
     (λ d. says_same marks' marks q (sym (s.off q d)) t) in
     record {
       long = s.long ∙ K.long;
       gone = λ q a t.
           either (same_or_not q k)
-          (λ d. says_e marks' (get_or G.heads q 0) t (ap (λ v. get_or marks' v 0) (ap (λ v. get_or G.heads v 0) d ∙ sym ey) ∙ s.here))
-          (λ d. K.gone q (done_back ek a d) (fewer (get_or G.heads q 0) t));
+          (λ d. says_no marks' (get_or G.heads q 0) (ap (λ v. get_or marks' v false) (ap (λ v. get_or G.heads v 0) d) ∙ s.here) t)
+          (λ d. K.gone q (done_back a d) (fewer (get_or G.heads q 0) t));
       less = λ q t. K.less q (fewer q t);
     }
 
 -- ---- the row
 
 -- the first t of the c listed edges of the row of x are settled
-pub record Settling (G : Graph) (marks₀ : List ℕ) (D : EdgeCosts) (x : ℕ) (todo : List ℕ) (c : ℕ) (C₀ : EdgeCosts) (flags₀ dirty₀ : List ℕ) (t : ℕ)
-    (C : EdgeCosts) (flags dirty marks : List ℕ) : Type 0 where
+pub record Settling (G : Graph) (marks₀ : List Bool) (D : EdgeCosts) (x : ℕ) (todo : List ℕ) (c : ℕ) (C₀ : EdgeCosts) (flags₀ : List ℕ) (dirty₀ : List Bool) (t : ℕ)
+    (C : EdgeCosts) (flags : List ℕ) (dirty marks : List Bool) : Type 0 where
   pub within : t ≤ c
   pub clearing : Clearing G x todo t marks₀ marks
   pub noted : Noted G x flags₀ flags dirty₀ dirty
@@ -126,9 +112,9 @@ pub record Settling (G : Graph) (marks₀ : List ℕ) (D : EdgeCosts) (x : ℕ) 
   pub flag_e : (q : ℕ) → Done G x todo t q → T (flagged flags q)
       → T (flagged flags₀ q) ⊎ ((d : Direction) × (get_or (chosen d C₀) q 0 ≢ get_or (chosen d D) (get_or G.heads q 0) 0))
 
-module _ {G : Graph} {marks₀ : List ℕ} {x : ℕ} {todo : List ℕ} {c : ℕ} where
+module _ {G : Graph} {marks₀ : List Bool} {x : ℕ} {todo : List ℕ} {c : ℕ} where
   -- none yet
-  pub settling_start : {D C : EdgeCosts} {flags dirty : List ℕ} → Settling G marks₀ D x todo c C flags dirty 0 C flags dirty marks₀
+  pub settling_start : {D C : EdgeCosts} {flags : List ℕ} {dirty : List Bool} → Settling G marks₀ D x todo c C flags dirty 0 C flags dirty marks₀
   settling_start =
       record {
         within = omega arith;
@@ -143,21 +129,26 @@ module _ {G : Graph} {marks₀ : List ℕ} {x : ℕ} {todo : List ℕ} {c : ℕ}
         flag_e = λ q a. absurd (done_none q a);
       }
 
-  module _ {C₀ : EdgeCosts} (M : Lists G C₀) (under : x < count G.first) (L : Listed G marks₀ x todo c) {t k : ℕ} (l : t < c)
-      (ek : k ≡ get_or todo t 0) where
+  module _ {C₀ : EdgeCosts} (M : Lists G C₀) (under : x < count G.first) (L : Listed G marks₀ x todo c) {t : ℕ} (l : t < c) where
+    abbrev k : ℕ
+    k = get_or todo t 0
+
+    abbrev y : ℕ
+    y = get_or G.heads k 0
+
     -- the next one is an edge of the row
     settling_in : InRow G x k
-    settling_in = rw ek (L.row t l)
+    settling_in = L.row t l
 
     -- so its place is one of the lists, and its entry a position
-    pub settling_reads : (k < length G.heads) × (get_or G.heads k 0 < 4096)
+    pub settling_reads : (k < length G.heads) × (y < 4096)
     settling_reads = ((in_heads M.rows x k under settling_in).1, omega (arith, M.few, M.rows.below x k under settling_in))
 
-    module _ {D : EdgeCosts} {flags₀ dirty₀ : List ℕ} {C : EdgeCosts} {flags dirty marks : List ℕ}
+    module _ {D : EdgeCosts} {flags₀ : List ℕ} {dirty₀ : List Bool} {C : EdgeCosts} {flags : List ℕ} {dirty marks : List Bool}
         (K : Settling G marks₀ D x todo c C₀ flags₀ dirty₀ t C flags dirty marks) where
       -- and it has a flag
-      pub settling_spot : {y : ℕ} → edges_of G ≤ length flags₀ * 64 → y ≡ get_or G.heads k 0 → Spot C (length flags) k y × (x < 4096)
-      settling_spot f e =
+      pub settling_spot : edges_of G ≤ length flags₀ * 64 → Spot C (length flags) k y × (x < 4096)
+      settling_spot f =
           let h = (in_heads M.rows x k under settling_in).0 in (
             record {
               up_in = omega (arith, K.up_long, M.up_long);
@@ -170,10 +161,10 @@ module _ {G : Graph} {marks₀ : List ℕ} {x : ℕ} {todo : List ℕ} {c : ℕ}
 
       -- it stands as it did at the entry to the row
       as_it_was : ((d : Direction) → get_or (chosen d C) k 0 ≡ get_or (chosen d C₀) k 0) × (flagged flags k ≡ flagged flags₀ k)
-      as_it_was = K.others k (done_yet ek L l)
+      as_it_was = K.others k (done_yet L l)
 
       -- an edge that stays as it was
-      stays : {marks' : List ℕ} → Clearing G x todo (t + 1) marks₀ marks' → ((d : Direction) → get_or (chosen d C) k 0 ≡ get_or (chosen d D) (get_or G.heads k 0) 0)
+      stays : {marks' : List Bool} → Clearing G x todo (t + 1) marks₀ marks' → ((d : Direction) → get_or (chosen d C) k 0 ≡ get_or (chosen d D) y 0)
           → Settling G marks₀ D x todo c C₀ flags₀ dirty₀ (t + 1) C flags dirty marks'
       stays m g =
           record {
@@ -184,34 +175,34 @@ module _ {G : Graph} {marks₀ : List ℕ} {x : ℕ} {todo : List ℕ} {c : ℕ}
             down_long = K.down_long;
             words = K.words;
             others = λ q n. K.others q (λ a. n (done_more a));
-            here = λ d q a. either (same_or_not q k) (λ f. rw f (g d)) (λ f. K.here d q (done_back ek a f));
+            here = λ d q a. either (same_or_not q k) (λ f. rw f (g d)) (λ f. K.here d q (done_back a f));
             flag_i = λ d q a n.
                 either (same_or_not q k)
                 (λ f.
                 let n' : get_or (chosen d C₀) k 0 ≢ get_or (chosen d D) (get_or G.heads k 0) 0 =
                 subst (λ v. get_or (chosen d C₀) v 0 ≢ get_or (chosen d D) (get_or G.heads v 0) 0) f n in
                 absurd (n' (sym (as_it_was.0 d) ∙ g d)))
-                (λ f. K.flag_i d q (done_back ek a f) n);
+                (λ f. K.flag_i d q (done_back a f) n);
             flag_e = λ q a m.
                 either (same_or_not q k)
                 (λ f. inl (subst (λ v. T (flagged flags₀ v)) (sym f) (subst T as_it_was.1 (subst (λ v. T (flagged flags v)) f m))))
-                (λ f. K.flag_e q (done_back ek a f) m);
+                (λ f. K.flag_e q (done_back a f) m);
           }
 
       -- one edge more
-      pub settling_more : {y : ℕ} {C' : EdgeCosts} {flags' dirty' marks' : List ℕ} → length dirty₀ ≡ 4096 → length marks₀ ≡ 4096 → y ≡ get_or G.heads k 0
+      pub settling_more : {C' : EdgeCosts} {flags' : List ℕ} {dirty' marks' : List Bool} → length dirty₀ ≡ 4096 → length marks₀ ≡ 4096
           → SettledAt D x k y C flags dirty marks C' flags' dirty' marks'
           → Settling G marks₀ D x todo c C₀ flags₀ dirty₀ (t + 1) C' flags' dirty' marks'
-      settling_more b a e (as_before g ec ef ed em) =
+      settling_more b a (as_before g ec ef ed em) =
           rw (ec, ef, ed)
-          (stays (clearing_more K.clearing ek e (omega (arith, settling_reads.1)) em) (λ d. g d ∙ ap (λ v. get_or (chosen d D) v 0) e))
-      settling_more {y} {C'} {flags'} {dirty'} b a e (made_new w n ec F ed em) =
+          (stays (clearing_more K.clearing (omega (arith, settling_reads.1)) em) g)
+      settling_more {C'} {flags'} {dirty'} b a (made_new w n ec F ed em) =
           let h = (in_heads M.rows x k under settling_in).0 in
           let o = both_stored C C' k (λ d. get_or (chosen d D) y 0) ec (omega (arith, K.up_long, M.up_long)) (omega (arith, K.down_long, M.down_long)) in
-          let s = stored dirty dirty' x 1 ed (omega (arith, K.noted.long, M.few)) in
+          let s = said dirty dirty' x true ed (omega (arith, K.noted.long, M.few)) in
           record {
             within = omega arith;
-            clearing = clearing_more K.clearing ek e (omega (arith, settling_reads.1)) em;
+            clearing = clearing_more K.clearing (omega (arith, settling_reads.1)) em;
             noted = record {
               long = s.long ∙ K.noted.long;
               here = λ q r t. inr (said_here s);
@@ -223,30 +214,30 @@ module _ {G : Graph} {marks₀ : List ℕ} {x : ℕ} {todo : List ℕ} {c : ℕ}
             down_long = (o Down).long ∙ K.down_long;
             words = F.long ∙ K.words;
             others = λ q f.
-                let d : q ≢ k = λ g. f record { at = t; soon = omega arith; there = sym (g ∙ ek) } in
+                let d : q ≢ k = λ g. f record { at = t; soon = omega arith; there = sym g } in
                 let b = K.others q (λ a. f (done_more a)) in
                 (λ c. (o c).off q d ∙ b.0 c, F.off q d ∙ b.1);
             here = λ d q a.
                 either (same_or_not q k)
-                (λ g. rw g ((o d).here ∙ ap (λ v. get_or (chosen d D) v 0) e))
-                (λ g. (o d).off q g ∙ K.here d q (done_back ek a g));
+                (λ g. rw g (o d).here)
+                (λ g. (o d).off q g ∙ K.here d q (done_back a g));
             flag_i = λ d q a c.
                 either (same_or_not q k)
                 (λ g. subst (λ v. T (flagged flags' v)) (sym g) F.here)
-                (λ g. subst T (sym (F.off q g)) (K.flag_i d q (done_back ek a g) c));
+                (λ g. subst T (sym (F.off q g)) (K.flag_i d q (done_back a g) c));
             flag_e = λ q a c.
                 either (same_or_not q k)
                 (λ g.
                 inr (
                   w,
                   subst (λ v. get_or (chosen w C₀) v 0 ≢ get_or (chosen w D) (get_or G.heads v 0) 0) (sym g)
-                      (λ f. n (as_it_was.0 w ∙ f ∙ ap (λ v. get_or (chosen w D) v 0) (sym e))),
+                      (λ f. n (as_it_was.0 w ∙ f)),
                 ))
-                (λ g. K.flag_e q (done_back ek a g) (subst T (F.off q g) c));
+                (λ g. K.flag_e q (done_back a g) (subst T (F.off q g) c));
           }
 
   -- the whole list
-  pub settling_all : {D C₀ : EdgeCosts} {flags₀ dirty₀ : List ℕ} {t : ℕ} {C : EdgeCosts} {flags dirty marks : List ℕ} → Listed G marks₀ x todo c
+  pub settling_all : {D C₀ : EdgeCosts} {flags₀ : List ℕ} {dirty₀ : List Bool} {t : ℕ} {C : EdgeCosts} {flags : List ℕ} {dirty marks : List Bool} → Listed G marks₀ x todo c
       → Settling G marks₀ D x todo c C₀ flags₀ dirty₀ t C flags dirty marks → c ≤ t
       → Settled G marks₀ D x C₀ flags₀ C flags × (Cleared G x marks₀ marks × Noted G x flags₀ flags dirty₀ dirty)
   settling_all {t = t} L K l =

@@ -2,7 +2,7 @@
 use Prim.Native.Nat.{ℕ, ◌+◌, ◌≤◌, ◌<◌, min}
 use mathlib.Core.Path.{◌≡◌, refl, sym, ap, ◌∙◌, subst}
 use mathlib.Core.Logic.{◌⊎◌, inl, inr, ◌≢◌}
-use mathlib.Core.Bool.{Bool}
+use mathlib.Core.Bool.{Bool, true, false}
 use mathlib.Core.List.{List}
 use native.Mathlib.Omega.{arith}
 use lib.Dec.{T, eqb}
@@ -11,7 +11,8 @@ use Rattle.rules.specs.declared.Direction.{Direction}
 use Rattle.rules.specs.declared.Direction.TheVariants.{Up, Down}
 use Rattle.rules.specs.Words.{least}
 use Rattle.rules.specs.Costs.{closed}
-use Rattle.rules.specs.Net.{net, road_between}
+use Rattle.rules.specs.Net.{Net, road_between}
+use Rattle.roads.specs.declared.Roads.{Roads}
 use Rattle.rules.specs.Graph.{Graph}
 use Rattle.rules.specs.Hierarchy.{EdgeCosts, linked, held, along}
 use Rattle.rules.specs.Customised.{over}
@@ -22,14 +23,13 @@ use Rattle.theory.proofs.Totals.{Same}
 use Rattle.theory.proofs.Rows.{in_heads, linked_e, linked_i, linked_third, linked_two, row_of_lem}
 use Rattle.theory.proofs.Held.{held_up, held_down}
 use Rattle.theory.proofs.Changed.{Why, by_road, by_near, by_far, why, because, why_turn, new_is, differ_i, differ_e, calm_same, why_reached}
-use Rattle.lists.specs.Lent.{chosen}
+use Rattle.rules.specs.Lent.{chosen}
 use Rattle.turns.specs.Edges.{At, Kept}
-use Rattle.turns.proofs.Stored.{stored}
 use Rattle.turns.proofs.Kept.{kept_none, kept_on}
 use Rattle.reconsider.specs.Flags.{flagged}
 use Rattle.reconsider.specs.Marks.{says, MarkedAt, set_here, not_here, Cause, road_changed, row_changed, MarkedRow}
 use Rattle.reconsider.specs.Reaches.{Reaches}
-use Rattle.reconsider.proofs.Said.{says_i, says_e, says_same}
+use Rattle.reconsider.proofs.Said.{says_no, says_same, said, said_here}
 use Rattle.look.specs.Looking.{Below, LookedRow}
 use Rattle.change.specs.Turning.{new_of, again, Ways, Standing, LaidRow, Settled, Cleared, Noted, Carriage, Ready, Stepped}
 use Rattle.change.proofs.Counted.{turn_count, from_same, from_none}
@@ -59,9 +59,6 @@ along_small f top h Down a b = h b a
 
 module _ {G : Graph} {before after : ℕ → ℕ → ℕ} {C₀ C : EdgeCosts} {x : ℕ} {flags : List ℕ} (L : Lists G C)
     (S : Standing G before after C₀ x C flags) where
-  abbrev R : Rows (count G.first) G
-  R = L.rows
-
   abbrev n : ℕ
   n = count G.first
 
@@ -80,9 +77,9 @@ module _ {G : Graph} {before after : ℕ → ℕ → ℕ} {C₀ C : EdgeCosts} {
   -- what the lists before held at the edges of the row of x, and of higher ones, still stands there
   stood : (d : Direction) (p k : ℕ) → x ≤ p → p < n → InRow G p k → get_or (chosen d C) k 0 ≡ along d old p (get_or G.heads k 0)
   stood d p k h l r =
-      let i = (in_heads R p k l r).0 in
+      let i = (in_heads L.rows p k l r).0 in
       S.higher d p k h l r
-      ∙ held_at R C₀ p k l r (omega (arith, L.up_long, S.kept.up_long)) (omega (arith, L.down_long, S.kept.down_long)) d
+      ∙ held_at L.rows C₀ p k l r (omega (arith, L.up_long, S.kept.up_long)) (omega (arith, L.down_long, S.kept.down_long)) d
 
   -- an edge that is not reconsidered keeps its costs
   calm : (p y : ℕ) → (Reason p y → ⊥) → (d : Direction) → along d new p y ≡ along d old p y
@@ -98,7 +95,7 @@ module _ {G : Graph} {before after : ℕ → ℕ → ℕ} {C₀ C : EdgeCosts} {
   uncounted p none =
       from_none J (again G before after C₀) n p
       (λ y h j t.
-      let (k, q, e) = linked_e R p y j h in
+      let (k, q, e) = linked_e L.rows p y j h in
       none k q (subst (λ v. Reason p v) (sym e) (why J before after old new p y t)))
 
   module _ (l : x < n) where
@@ -161,13 +158,13 @@ module _ {G : Graph} {before after : ℕ → ℕ → ℕ} {C₀ C : EdgeCosts} {
       omega (arith, uncounted x none),
     )
 
-    module _ {own : ℕ → Bool} {marks : List ℕ} (owns : (y : ℕ) → x < y → Same (own y) (differs before after x y)) (M : MarkedRow G flags own x marks) where
+    module _ {own : ℕ → Bool} {marks : List Bool} (owns : (y : ℕ) → x < y → Same (own y) (differs before after x y)) (M : MarkedRow G flags own x marks) where
       cause_why : (y : ℕ) → x < y → Cause G flags own x y → Reason x y
       cause_why y h (road_changed t) = by_road ((owns y h).0 t)
       cause_why y h (row_changed z a b zx ra rb ea eb xy t) =
           let zn : z < n = omega arith in
-          let jx = linked_i R z a x zn ra ea in
-          let jy = linked_i R z b y zn rb eb in
+          let jx = linked_i L.rows z a x zn ra ea in
+          let jy = linked_i L.rows z b y zn rb eb in
           either (or_e (flagged flags a) (flagged flags b) t)
           (λ f. by_near z (omega arith) jx jy (subst (λ v. T (differs old new z v)) ea (S.flag_e z a zn ra f).1))
           (λ f. by_far z (omega arith) jx jy (subst (λ v. T (differs old new z v)) eb (S.flag_e z b zn rb f).1))
@@ -176,8 +173,8 @@ module _ {G : Graph} {before after : ℕ → ℕ → ℕ} {C₀ C : EdgeCosts} {
       lower_cause : (y z : ℕ) → x < y → z < min x y → T (J z x) → T (J z y) → T (differs old new z x) ⊎ T (differs old new z y) → Cause G flags own x y
       lower_cause y z h g jx jy w =
           let zn : z < n = omega arith in
-          let (a, ra, ea) = linked_e R z x jx (omega arith) in
-          let (b, rb, eb) = linked_e R z y jy (omega arith) in
+          let (a, ra, ea) = linked_e L.rows z x jx (omega arith) in
+          let (b, rb, eb) = linked_e L.rows z y jy (omega arith) in
           row_changed z a b (omega arith) ra rb ea eb h
           (either w
           (λ d. or_l (flagged flags a) (flagged flags b) (S.flag_i z a (omega arith) zn ra (subst (λ v. T (differs old new z v)) (sym ea) d)))
@@ -203,7 +200,7 @@ module _ {G : Graph} {before after : ℕ → ℕ → ℕ} {C₀ C : EdgeCosts} {
             → get_or (chosen d D') (get_or G.heads k 0) 0 ≡ along d new x (get_or G.heads k 0)
         got d k q m =
             let y = get_or G.heads k 0 in
-            let h = R.above x k l q in
+            let h = L.rows.above x k l q in
             let e : get_or (chosen d D) y 0 ≡ along d after x y = roads d k q m in
             K.lowest d new standing_below k q m (omega (arith, along_small after closed shut d x y))
             ∙ ap (λ v. least (along d (over J new) x y) v x) e ∙ sym (ruled y h (marked_why y h m) d)
@@ -224,7 +221,7 @@ module _ {G : Graph} {before after : ℕ → ℕ → ℕ} {C₀ C : EdgeCosts} {
             ))
             (λ e.
             let m : T (says marks y) → ⊥ = λ v. true_false (sym (holds_true (says marks y) v) ∙ e) in
-            let c = calm x y (λ w. m (why_marked y (R.above x k l q) w)) in
+            let c = calm x y (λ w. m (why_marked y (L.rows.above x k l q) w)) in
             let (a, b) = N.others k (λ s v. m v) in (
               record { stands = λ d. a d ∙ stood d x k (omega arith) l q ∙ sym (c d) },
               (λ t. absurd (unflagged k q (subst T b t)), λ t. let (d, f) = differ_way old new x y t in absurd (f (sym (c d)))),
@@ -234,10 +231,10 @@ module _ {G : Graph} {before after : ℕ → ℕ → ℕ} {C₀ C : EdgeCosts} {
         pub turn_more : Kept G C C'
             → Standing G before after C₀ (x + 1) C' flags' × (r ≡ s + triangles_from J (again G before after C₀) n x)
         turn_more T₀ = (
-          standing_on T₀ (λ p k e m q. N.others k (λ s v. e (row_of_lem R p x k m l q s))) own_edge,
+          standing_on T₀ (λ p k e m q. N.others k (λ s v. e (row_of_lem L.rows p x k m l q s))) own_edge,
           K.number
               ∙ ap (λ v. s + v)
-              (turn_count R x marks L.few
+              (turn_count L.rows x marks L.few
               ∙ from_same J (λ a b. says marks b) (again G before after C₀) n x
               (λ y h j. (λ t. because J before after old new x y (marked_why y h t), λ t. why_marked y h (why J before after old new x y t)))),
         )
@@ -245,25 +242,25 @@ module _ {G : Graph} {before after : ℕ → ℕ → ℕ} {C₀ C : EdgeCosts} {
 -- ---- whatever the roads were before
 
 -- marks are as many as before
-pub marked_at_long : {y : ℕ} {yes : Bool} {marks marks' : List ℕ} → MarkedAt y yes marks marks' → length marks' ≡ length marks
-marked_at_long {y} {marks = marks} (set_here t e) = ap length e ∙ length-set marks y 1
+pub marked_at_long : {y : ℕ} {yes : Bool} {marks marks' : List Bool} → MarkedAt y yes marks marks' → length marks' ≡ length marks
+marked_at_long {y} {marks = marks} (set_here t e) = ap length e ∙ length-set marks y true
 marked_at_long (not_here t e) = ap length e
 
-module _ {heads costs order at next : List ℕ} {G : Graph} {C : EdgeCosts} {words lo hi x : ℕ} (A : Carriage heads costs order at next G C words lo hi)
+module _ {N : Net} {threads : Roads} {G : Graph} {C : EdgeCosts} {words lo hi x : ℕ} (A : Carriage N threads G C words lo hi)
     (l : x < count G.first) where
   -- the higher end of the edge whose road changed is a position
   pub hi_seat : hi < 4096
   hi_seat = omega (arith, (linked_two A.lists.rows lo hi A.edge).1, A.lists.few)
 
-  abbrev After : List ℕ → ℕ → ℕ → ℕ
-  After tails = road_between (net tails heads costs order)
+  abbrev after : ℕ → ℕ → ℕ
+  after = road_between N
 
   -- a turn that changes nothing: no edge of the row of x is reconsidered
-  stepped_calm : {flags dirty : List ℕ} {s : ℕ}
-      → ((tails : List ℕ) (before : ℕ → ℕ → ℕ) (C₀ : EdgeCosts) → Ways (net tails heads costs order) at next lo hi before
-      → Standing G before (After tails) C₀ x C flags → (k : ℕ) → InRow G x k
-      → Why (linked G) before (After tails) (held G C₀) (new_of G before (After tails) C₀) x (get_or G.heads k 0) → ⊥)
-      → Stepped heads costs order at next G lo hi x C flags dirty C flags dirty s s
+  stepped_calm : {flags : List ℕ} {dirty : List Bool} {s : ℕ}
+      → ((before : ℕ → ℕ → ℕ) (C₀ : EdgeCosts) → Ways N lo hi before
+      → Standing G before after C₀ x C flags → (k : ℕ) → InRow G x k
+      → Why (linked G) before after (held G C₀) (new_of G before after C₀) x (get_or G.heads k 0) → ⊥)
+      → Stepped N G lo hi x C flags dirty C flags dirty s s
   stepped_calm none =
       record {
         kept = kept_none G C;
@@ -271,25 +268,25 @@ module _ {heads costs order at next : List ℕ} {G : Graph} {C : EdgeCosts} {wor
         few = omega arith;
         dirty_off = λ z e. refl;
         dirty_full = λ t. inl t;
-        turned = λ tails before C₀ w S. turn_idle A.lists S l (none tails before C₀ w S);
+        turned = λ before C₀ w S. turn_idle A.lists S l (none before C₀ w S);
       }
 
   -- the turn of a position that the change cannot reach
-  pub stepped_off : {on flags dirty marks : List ℕ} {D : EdgeCosts} {todo : List ℕ} {s : ℕ} → Reaches G lo on → get_or on x 0 ≡ 0 → Ready G flags dirty marks D todo
-      → Stepped heads costs order at next G lo hi x C flags dirty C flags dirty s s × Ready G flags dirty marks D todo
+  pub stepped_off : {on : List Bool} {flags : List ℕ} {dirty marks : List Bool} {D : EdgeCosts} {todo : List ℕ} {s : ℕ} → Reaches G lo on → get_or on x false ≡ false → Ready G flags dirty marks D todo
+      → Stepped N G lo hi x C flags dirty C flags dirty s s × Ready G flags dirty marks D todo
   stepped_off {on} H e E = (
     stepped_calm
-        (λ tails before C₀ w S k q r.
-        says_e on x
-        (why_reached (linked G) before (After tails) (held G C₀) (λ p. T (says on p)) lo H.start
+        (λ before C₀ w S k q r.
+        says_no on x e
+        (why_reached (linked G) before after (held G C₀) (λ p. T (says on p)) lo H.start
         (λ p o po j t.
         let (i, ri, ei) = linked_e A.lists.rows p o j po in
         subst (λ v. T (says on v)) ei (H.upward.entries p i (linked_two A.lists.rows p o j).0 ri t))
-        (λ a b ab t. (w.only a b ab t).0) x (get_or G.heads k 0) (A.lists.rows.above x k l q) r) e),
+        (λ a b ab t. (w.only a b ab t).0) x (get_or G.heads k 0) (A.lists.rows.above x k l q) r)),
     E,
   )
 
-  module _ {flags dirty marks marks₁ marks₂ : List ℕ} {D : EdgeCosts} {todo : List ℕ} (E : Ready G flags dirty marks D todo) (B : MarkedAt hi (eqb x lo) marks marks₁)
+  module _ {flags : List ℕ} {dirty marks marks₁ marks₂ : List Bool} {D : EdgeCosts} {todo : List ℕ} (E : Ready G flags dirty marks D todo) (B : MarkedAt hi (eqb x lo) marks marks₁)
       (M : MarkedRow G flags (says marks₁) x marks₂) where
     -- the edge whose road changed is marked, in the turn of its lower end, and no other
     own_e : (y : ℕ) → T (says marks₁ y) → (x ≡ lo) × (y ≡ hi)
@@ -297,7 +294,7 @@ module _ {heads costs order at next : List ℕ} {G : Graph} {C : EdgeCosts} {wor
       where
         by : MarkedAt hi (eqb x lo) marks marks₁ → (x ≡ lo) × (y ≡ hi)
         by (set_here u e) =
-            let s = stored marks marks₁ hi 1 e (omega (arith, E.clear.long, hi_seat)) in (
+            let s = said marks marks₁ hi true e (omega (arith, E.clear.long, hi_seat)) in (
               eqb_e x lo u,
               either (same_or_not y hi) (λ f. f) (λ f. absurd (E.clear.none y (says_same marks₁ marks y (sym (s.off y f)) t))),
             )
@@ -308,13 +305,13 @@ module _ {heads costs order at next : List ℕ} {G : Graph} {C : EdgeCosts} {wor
       where
         by : MarkedAt hi (eqb x lo) marks marks₁ → T (says marks₁ y)
         by (set_here u e) =
-            let s = stored marks marks₁ hi 1 e (omega (arith, E.clear.long, hi_seat)) in
-            subst (λ v. T (says marks₁ v)) (sym ey) (says_i marks₁ hi (λ g. omega (arith, s.here)))
+            let s = said marks marks₁ hi true e (omega (arith, E.clear.long, hi_seat)) in
+            subst (λ v. T (says marks₁ v)) (sym ey) (said_here s)
         by (not_here u e) = absurd (u (eqb_i x lo ex))
 
-    owns : (tails : List ℕ) (before : ℕ → ℕ → ℕ) → Ways (net tails heads costs order) at next lo hi before
-        → (y : ℕ) → x < y → Same (says marks₁ y) (differs before (After tails) x y)
-    owns tails before w y h = (
+    owns : (before : ℕ → ℕ → ℕ) → Ways N lo hi before
+        → (y : ℕ) → x < y → Same (says marks₁ y) (differs before after x y)
+    owns before w y h = (
       λ t. let (ex, ey) = own_e y t in rw (ex, ey) w.there,
       λ t. let (ex, ey) = w.only x y h t in own_i y ex ey,
     )
@@ -332,14 +329,14 @@ module _ {heads costs order at next : List ℕ} {G : Graph} {C : EdgeCosts} {wor
             let zn : z < count G.first = omega arith in
             linked_e R x y (linked_third R z x y h (omega arith) (λ g. omega arith) (linked_i R z a x zn ra ea) (linked_i R z b y zn rb eb)) xy
 
-    module _ {D₁ : EdgeCosts} {todo' : List ℕ} {c : ℕ} (W : LaidRow heads costs order at next G marks₂ x D₁ todo' c) where
+    module _ {D₁ : EdgeCosts} {todo' : List ℕ} {c : ℕ} (W : LaidRow N G marks₂ x D₁ todo' c) where
       -- the turn of a position whose row has no reconsidered edge
-      pub stepped_idle : {s : ℕ} → c ≡ 0 → Stepped heads costs order at next G lo hi x C flags dirty C flags dirty s s × Ready G flags dirty marks₂ D₁ todo'
+      pub stepped_idle : {s : ℕ} → c ≡ 0 → Stepped N G lo hi x C flags dirty C flags dirty s s × Ready G flags dirty marks₂ D₁ todo'
       stepped_idle e = (
         stepped_calm
-            (λ tails before C₀ w S k q r.
+            (λ before C₀ w S k q r.
             none e k q
-            (why_marked A.lists S l (owns tails before w) M (get_or G.heads k 0) (A.lists.rows.above x k l q) r)),
+            (why_marked A.lists S l (owns before w) M (get_or G.heads k 0) (A.lists.rows.above x k l q) r)),
         record {
           dirt = E.dirt;
           clear = record {
@@ -355,9 +352,9 @@ module _ {heads costs order at next : List ℕ} {G : Graph} {C : EdgeCosts} {wor
           none e k q t = let (i, h, f) = W.listed.all k q t in omega arith
 
       -- any other turn
-      pub stepped_more : {D₂ C' : EdgeCosts} {flags' dirty' marks₃ : List ℕ} {s r : ℕ} → LookedRow G C marks₂ x D₁ D₂ s r
+      pub stepped_more : {D₂ C' : EdgeCosts} {flags' : List ℕ} {dirty' marks₃ : List Bool} {s r : ℕ} → LookedRow G C marks₂ x D₁ D₂ s r
           → Settled G marks₂ D₂ x C flags C' flags' → Cleared G x marks₂ marks₃ → Noted G x flags flags' dirty dirty'
-          → Stepped heads costs order at next G lo hi x C flags dirty C' flags' dirty' s r × Ready G flags' dirty' marks₃ D₂ todo'
+          → Stepped N G lo hi x C flags dirty C' flags' dirty' s r × Ready G flags' dirty' marks₃ D₂ todo'
       stepped_more {dirty' = dirty'} {marks₃} K N F O =
           let R = A.lists.rows in
           let on : Kept G C _ = record {
@@ -371,8 +368,8 @@ module _ {heads costs order at next : List ℕ} {G : Graph} {C : EdgeCosts} {wor
               few = K.few;
               dirty_off = O.off;
               dirty_full = O.full;
-              turned = λ tails before C₀ w S.
-                  turn_more A.lists S l (owns tails before w) M w.shut (λ d k q m. W.there tails w.threads d k q m) K N on;
+              turned = λ before C₀ w S.
+                  turn_more A.lists S l (owns before w) M w.shut (W.there) K N on;
             },
             record {
               dirt = record {

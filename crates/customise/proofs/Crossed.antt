@@ -4,27 +4,20 @@ use mathlib.Core.Path.{◌≡◌, refl, sym, ap, ◌∙◌, subst}
 use mathlib.Core.Logic.{◌≢◌}
 use mathlib.Core.List.{List}
 use native.Mathlib.Omega.{arith}
-use lib.ListN.{length, get_or, set}
-use Rattle.rules.specs.declared.Cost.{Cost}
+use lib.ListN.{length, get_or}
 use Rattle.rules.specs.declared.Direction.{Direction}
 use Rattle.rules.specs.declared.Direction.TheVariants.{Up, Down}
-use Rattle.rules.specs.Costs.{sum, cost_of, sum_of, least_of}
 use Rattle.rules.specs.Graph.{Graph}
 use Rattle.rules.specs.Hierarchy.{EdgeCosts, along}
 use Rattle.theory.specs.Rows.{InRow, Rows, Lists, count}
 use Rattle.theory.proofs.Words.{either, same_or_not}
 use Rattle.theory.proofs.Rows.{in_heads, in_row_i, next_row, lists_same, row_of_lem, once}
-use Rattle.lists.specs.Lent.{chosen}
+use Rattle.rules.specs.Lent.{chosen}
 use Rattle.turns.specs.Edges.{at_most}
 use Rattle.customise.specs.Turns.{Spread, Within, lowered, Beside, Third, Crossed, across}
 use Rattle.turns.proofs.Stored.{Stored, stored}
 
 -- ---- one triangle
-
--- the lesser of what stands there and of a sum, stored there
-pub at_most_lem : (list : List ℕ) (k a b : ℕ) (s r : Cost) → s ≡ sum_of (cost_of a) (cost_of b) → r ≡ least_of (cost_of (get_or list k 0)) s
-    → set list k r.0 ≡ at_most list k (sum a b)
-at_most_lem list k a b s r e d = rw (d, e) refl
 
 -- each list of the two
 lowered_is : (i j k : ℕ) (C : EdgeCosts) (d : Direction) → chosen d (lowered i j k C) ≡ at_most (chosen d C) k (along d (across C) i j)
@@ -56,10 +49,6 @@ module _ {G : Graph} {C₀ : EdgeCosts} {z i : ℕ} (B : Beside G C₀ z i) wher
 
   abbrev x : ℕ
   x = get_or G.heads i 0
-
-  -- place i is one of the heads, and z one of the rows
-  pub beside_in : (i < length G.heads) × (z + 1 < length G.first)
-  beside_in = ((in_heads R z i B.under B.row).1, omega (arith, R.long, B.under))
 
   xn : x < count G.first
   xn = R.below z i B.under B.row

@@ -20,7 +20,7 @@ use Rattle.theory.specs.Rows.{InRow, count}
 use Rattle.theory.proofs.Words.{either, split, same_or_not, true_holds, holds_true, true_false, cond_true, cond_false, and_i, and_l, and_r, least_start, least_above, least_once, least_same}
 use Rattle.theory.proofs.Rows.{in_row_i, next_row, before, row_of_lem, linked_e, linked_i, place_is}
 use Rattle.theory.proofs.Customised.{customised_is}
-use Rattle.lists.specs.Lent.{chosen}
+use Rattle.rules.specs.Lent.{chosen}
 use Rattle.turns.specs.Edges.{At}
 use Rattle.turns.specs.Waiting.{Turn, PassedBelow}
 use Rattle.customise.specs.Turns.{Crossed, Shut, Risen, across}

@@ -9,7 +9,7 @@ use lib.ListN.{length, get_or, set}
 use borrow.Author.Tests.{lt-ltb, le-ltb, ltb-true, ltb-false}
 use Rattle.rules.specs.declared.Direction.{Direction}
 use Rattle.rules.specs.declared.Direction.TheVariants.{Up, Down}
-use Rattle.rules.specs.declared.Found.TheVariants.{At, Nothing}
+use Rattle.std.specs.Prelude.{Some, None}
 use Rattle.rules.specs.Net.{Net, size, arcs, tail, head, arc_cost, junction}
 use Rattle.rules.specs.Graph.{Graph}
 use Rattle.rules.specs.Hierarchy.{EdgeCosts, along, linked, place}
@@ -18,7 +18,8 @@ use Rattle.theory.specs.Accepted.{Accepted}
 use Rattle.theory.proofs.Words.{either, split, same_or_not}
 use Rattle.theory.proofs.Rows.{in_heads, row_of_lem, once, linked_e, linked_low, linked_turn, place_is}
 use Rattle.theory.proofs.LastArc.{last_between, last_hit, last_miss}
-use Rattle.lists.specs.Lent.{edge_found, chosen}
+use Rattle.lists.specs.Lent.{edge_found}
+use Rattle.rules.specs.Lent.{chosen}
 use Rattle.lists.proofs.Found.{edge_at, edge_nowhere}
 use Rattle.customise.specs.Edges.{Edge, laid_on, ArcFits, laid}
 use Rattle.turns.proofs.Stored.{stored}
@@ -41,11 +42,11 @@ module _ {G : Graph} {room x y : ℕ} (E : Edge G room x y) (l : x < y) where
   edge_low = linked_low E.rows x y (E.joined l)
 
   -- the search finds the edge
-  pub edge_some : edge_found G x y ≡ Nothing → ⊥
+  pub edge_some : edge_found G x y ≡ None → ⊥
   edge_some e = edge_nowhere E.rows x y l e (E.joined l)
 
   -- at its place
-  pub edge_laid : (list : List ℕ) (k v : ℕ) → edge_found G x y ≡ At k → (k < room) × (set list k v ≡ laid_on G list x y v)
+  pub edge_laid : (list : List ℕ) (k v : ℕ) → edge_found G x y ≡ Some k → (k < room) × (set list k v ≡ laid_on G list x y v)
   edge_laid list k v e =
       let (r, h) = edge_at E.rows x y k edge_low e in (
         omega (arith, (in_heads E.rows x k edge_low r).0, E.fits),

@@ -19,8 +19,7 @@ use Rattle.theory.proofs.Rows.{count_is, lists_of, lists_same, in_heads}
 use Rattle.theory.proofs.LastArc.{last_between, last_zero, between_last}
 use Rattle.theory.proofs.CostLists.{list_of}
 use Rattle.theory.proofs.Standing.{road_small}
-use Rattle.lists.specs.Lent.{chosen, filled}
-use Rattle.lists.proofs.Filled.{filled_whole}
+use Rattle.rules.specs.Lent.{chosen}
 use Rattle.turns.specs.Edges.{At}
 use Rattle.customise.specs.Edges.{ArcFits, laid}
 use Rattle.customise.specs.Turns.{Turned}
@@ -49,10 +48,10 @@ pub record Laying (N : Net) (G : Graph) (room : EdgeCosts) (m : ℕ) (C : EdgeCo
 
 module _ {N : Net} {rank : List ℕ} {G : Graph} {C₀ : EdgeCosts} (A : Accepted N rank G C₀) where
   -- no arc laid yet: CLOSED everywhere
-  module _ (room : EdgeCosts) (eu : room.up ≡ filled C₀.up 0 closed) (ed : room.down ≡ filled C₀.down 0 closed) where
+  module _ (room : EdgeCosts) (eu : room.up ≡ replicate (length C₀.up) closed) (ed : room.down ≡ replicate (length C₀.down) closed) where
     whole : (d : Direction) → chosen d room ≡ replicate (length (chosen d C₀)) closed
-    whole Up = eu ∙ filled_whole C₀.up closed
-    whole Down = ed ∙ filled_whole C₀.down closed
+    whole Up = eu
+    whole Down = ed
 
     same_room : (d : Direction) → length (chosen d room) ≡ length (chosen d C₀)
     same_room d = ap length (whole d) ∙ length-replicate (length (chosen d C₀)) closed

@@ -1,13 +1,14 @@
 -- A row spread out, one place after the other. Assumes nothing.
 use Prim.Native.Nat.{ℕ, ◌+◌, ◌≤◌, ◌<◌}
-use mathlib.Core.Path.{◌≡◌, refl, ◌∙◌}
+use mathlib.Core.Path.{◌≡◌, ◌∙◌}
 use mathlib.Core.List.{List}
 use native.Mathlib.Omega.{arith}
 use lib.ListN.{length, get_or, set}
 use Rattle.rules.specs.Graph.{Graph}
 use Rattle.theory.specs.Rows.{InRow}
 use Rattle.theory.proofs.Words.{either, same_or_not}
-use Rattle.theory.proofs.Rows.{in_heads, in_row_i, next_row, once}
+use Rattle.theory.proofs.EdgesFew.{edges_few}
+use Rattle.theory.proofs.Rows.{in_heads, in_row_i, once}
 use Rattle.turns.specs.Waiting.{Turn, SameBelow}
 use Rattle.customise.specs.Turns.{Spread}
 use Rattle.turns.proofs.Stored.{Stored, stored}
@@ -20,18 +21,6 @@ pub record Spreading (G : Graph) (x end k : ℕ) (places₀ places : List ℕ) :
   pub there : (q : ℕ) → InRow G x q → q < k → get_or places (get_or G.heads q 0) 0 ≡ q
   pub same : SameBelow x places₀ places
 
--- none yet
-pub spreading_none : {G : Graph} {places : List ℕ} {x end k : ℕ} → length places ≡ 4096 → end ≡ get_or G.first (x + 1) 0 → k ≡ get_or G.first x 0
-    → Spreading G x end k places places
-spreading_none l e d =
-    record {
-      end_is = e;
-      from = omega arith;
-      long = l;
-      there = λ q r h. absurd (omega (arith, r.low));
-      same = record { below = λ q h. refl };
-    }
-
 module _ {G : Graph} {x : ℕ} (U : Turn G x) {end k : ℕ} {places₀ places : List ℕ} (S : Spreading G x end k places₀ places) where
   -- the next place is one of the row, and its entry a position
   spreading_in : k < end → InRow G x k
@@ -40,8 +29,8 @@ module _ {G : Graph} {x : ℕ} (U : Turn G x) {end k : ℕ} {places₀ places : 
   pub spreading_seat : k < end → get_or G.heads k 0 < 4096
   spreading_seat l = omega (arith, U.few, U.rows.below x k U.under (spreading_in l))
 
-  pub spreading_place : k < end → k < length G.heads
-  spreading_place l = (in_heads U.rows x k U.under (spreading_in l)).1
+  pub spreading_place : k < end → (k < length G.heads) × (k < 4294967296)
+  spreading_place l = let (h, p) = in_heads U.rows x k U.under (spreading_in l) in (p, omega (arith, edges_few U.rows U.few))
 
   -- one more
   pub spreading_more : {places' : List ℕ} → k < end → places' ≡ set places (get_or G.heads k 0) k → Spreading G x end (k + 1) places₀ places'
@@ -59,10 +48,6 @@ module _ {G : Graph} {x : ℕ} (U : Turn G x) {end k : ℕ} {places₀ places : 
           below = λ q h. s.off q (λ d. omega (arith, U.rows.above x k U.under (spreading_in l))) ∙ S.same.below q h;
         };
       }
-
-  -- the whole row
-  pub spreading_all : end ≤ k → Spread G x places × SameBelow x places₀ places
-  spreading_all l = (record { long = S.long; there = λ q r. S.there q r (omega (arith, r.high, next_row G x, S.end_is)) }, S.same)
 
 -- a row spread out stays so where a lower position's place moves
 pub spread_still : {G : Graph} {x z v : ℕ} {places places' : List ℕ} → Turn G x → z < x → Stored places z v places' → Spread G x places → Spread G x places'

@@ -72,13 +72,14 @@ pub record Turning (G : Graph) (C₀ : EdgeCosts) (x : ℕ) (C : EdgeCosts) (lin
   pub passed : PassedBelow G x x places
 
 -- before the first turn
-pub turning_start : (G : Graph) (C : EdgeCosts) (zeros : List ℕ) → zeros ≡ replicate 4096 0 → Turning G C 0 C zeros zeros
-turning_start G C zeros e =
+pub turning_start : (G : Graph) (C : EdgeCosts) {links places : List ℕ} → links ≡ replicate 4096 0 → places ≡ replicate 4096 0
+    → Turning G C 0 C links places
+turning_start G C {links} {places} e f =
     record {
       within = omega arith;
       turned = record { kept = kept_none G C; risen = λ road shut s. s };
-      waits = waiting_none zeros zeros e (ap length e ∙ length-replicate {A = ℕ} 4096 0);
-      passed = passed_none zeros;
+      waits = waiting_none links places e (ap length f ∙ length-replicate {A = ℕ} 4096 0);
+      passed = passed_none places;
     }
 
 module _ {G : Graph} {C₀ C : EdgeCosts} {x : ℕ} {links places : List ℕ} (S : Turning G C₀ x C links places) where

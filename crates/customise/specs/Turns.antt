@@ -6,7 +6,7 @@ use Rattle.rules.specs.Graph.{Graph}
 use Rattle.rules.specs.Hierarchy.{EdgeCosts, edge_costs, along, linked}
 use Rattle.rules.specs.Customised.{customised}
 use Rattle.theory.specs.Rows.{InRow, Lists, count}
-use Rattle.lists.specs.Lent.{chosen}
+use Rattle.rules.specs.Lent.{chosen}
 use Rattle.turns.specs.Edges.{At, Kept, at_most}
 
 -- ---- one triangle

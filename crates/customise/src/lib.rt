@@ -2,73 +2,79 @@
 #![tactic(auto)]
 
 ghost use Rattle.std.specs.Prelude.{◌+◌, ◌<◌, ◌≡◌, length, get_or};
-ghost use Rattle.rules.specs.Net.{net};
-ghost use Rattle.rules.specs.Graph.{graph};
 ghost use Rattle.rules.specs.Hierarchy.{edge_costs};
+ghost use Rattle.rules.specs.Lent.{lent_net, lent_graph, lent_costs};
 ghost use Rattle.rules.specs.Calls.{customised_costs};
 ghost use Rattle.theory.specs.Accepted.{Accepted};
 ghost use Rattle.theory.specs.Rows.{Lists, count};
-ghost use Rattle.customise.specs.Edges.{Edge, laid_on, ArcFits, laid};
+ghost use Rattle.turns.specs.Edges.{at_most};
 ghost use Rattle.turns.specs.Waiting.{Turn, SameBelow, Waiting, PassedBelow};
-ghost use Rattle.customise.specs.Turns.{Within, lowered, Beside, Crossed, Spread, Turned};
+ghost use Rattle.customise.specs.Edges.{Edge, laid_on, ArcFits, laid};
+ghost use Rattle.customise.specs.Turns.{Within, across, lowered, Beside, Crossed, Spread, Turned};
 
-use lists::{fill, find_edge, position_of};
-use rules::{Cost, Found, Junction, Position, wide};
-use turns::queue_row;
+use lists::{find_edge, position_of};
+use rules::{Cost, EdgeCosts, Graph, Junction, Net, Position};
+use turns::Waits;
 
 // The cost from x to y into the list of one direction, at the place of their edge, where x is below y.
-fn lay_cost(
-    first: &[u32],
-    row_heads: &[u32],
-    list: &mut [u32],
-    x: Position,
-    y: Position,
-    cost: Cost,
-)
-    requires { Edge (graph first.now row_heads.now) (length list.old) x.0 y.0 }
-    ensures { list.new ≡ laid_on (graph first.now row_heads.now) list.old x.0 y.0 cost.0 }
+fn lay_cost(graph: &Graph, list: &mut [u32], x: Position, y: Position, cost: Cost)
+    requires { Edge (lent_graph graph.now) (length list.old) x.0 y.0 }
+    ensures { list.new ≡ laid_on (lent_graph graph.now) list.old x.0 y.0 cost.0 }
 {
-    if y.0 <= x.0 {
+    if y <= x {
         return;
     }
-    let Found::At(k) = find_edge(first, row_heads, x, y) else {
+    let Some(k) = find_edge(graph, x, y) else {
         return;
     };
     list[k] = cost.0;
 }
 
 // The cost of an arc onto its edge, in the arc's direction: what an earlier arc between the same ends left there is replaced.
+// The two lists of costs are passed side by side: a struct of both, made of two borrows here, would tell nothing of them afterwards.
 fn lay_arc(
     rank: &[u32],
-    first: &[u32],
-    row_heads: &[u32],
+    graph: &Graph,
     up: &mut [u32],
     down: &mut [u32],
     tail: Junction,
     head: Junction,
     cost: Cost,
 )
-    requires { Lists (graph first.now row_heads.now) (edge_costs up.old down.old) × ArcFits rank.now (graph first.now row_heads.now) tail.0 head.0 }
-    ensures { edge_costs up.new down.new ≡ laid rank.now (graph first.now row_heads.now) tail.0 head.0 cost.0 (edge_costs up.old down.old) }
+    requires { Lists (lent_graph graph.now) (edge_costs up.old down.old) × ArcFits rank.now (lent_graph graph.now) tail.0 head.0 }
+    ensures { edge_costs up.new down.new ≡ laid rank.now (lent_graph graph.now) tail.0 head.0 cost.0 (edge_costs up.old down.old) }
 {
     let x = position_of(rank, tail);
     let y = position_of(rank, head);
-    lay_cost(first, row_heads, up, x, y, cost);
-    lay_cost(first, row_heads, down, y, x, cost);
+    lay_cost(graph, up, x, y, cost);
+    lay_cost(graph, down, y, x, cost);
 }
 
 // The row of x spread out: at each position that it holds, the place of the edge there; what stands at lower positions stays.
-fn spread_row(first: &[u32], row_heads: &[u32], places: &mut [u32; 4096], x: usize)
-    requires { Turn (graph first.now row_heads.now) x × (length places.old ≡ 4096) }
-    ensures { Spread (graph first.now row_heads.now) x places.new × SameBelow x places.old places.new }
+fn spread_row(graph: &Graph, places: &mut [u32; 4096], x: usize)
+    requires { Turn (lent_graph graph.now) x }
+    ensures { Spread (lent_graph graph.now) x places.new × SameBelow x places.old places.new }
 {
-    let end = wide(first[x + 1]);
-    let mut k = wide(first[x]);
-    while k < end {
-        let y = wide(row_heads[k]);
+    for k in graph.places(x) {
+        let y = graph.heads[k] as usize;
         places[y] = k as u32;
-        k += 1;
     }
+}
+
+// The cost of the way from the neighbour at place a of a row over the row's position to the neighbour at place b.
+fn across(costs: &EdgeCosts, a: usize, b: usize) -> Cost
+    requires { (a < length costs.now.down.now) × (b < length costs.now.up.now) }
+    ensures { result.0 ≡ across (lent_costs costs.now) a b }
+{
+    Cost::sum(Cost(costs.down[a]), Cost(costs.up[b]))
+}
+
+// The cost at place k becomes no more than that of a way.
+fn lower_cost(list: &mut [u32], k: usize, way: Cost)
+    requires { k < length list.old }
+    ensures { list.new ≡ at_most list.old k way.0 }
+{
+    list[k] = list[k].min(way.0);
 }
 
 // One lower triangle: the edge at place k, between the neighbours at places i and j of a row, costs no more than the way over the row's position.
@@ -76,106 +82,88 @@ fn lower_edge(up: &mut [u32], down: &mut [u32], i: usize, j: usize, k: usize)
     requires { Within (edge_costs up.old down.old) i × Within (edge_costs up.old down.old) j × Within (edge_costs up.old down.old) k }
     ensures { edge_costs up.new down.new ≡ lowered i j k (edge_costs up.old down.old) }
 {
-    let rising = Cost::sum(Cost(down[i]), Cost(up[j]));
-    let falling = Cost::sum(Cost(down[j]), Cost(up[i]));
-    up[k] = Cost::least(Cost(up[k]), rising).0;
-    down[k] = Cost::least(Cost(down[k]), falling).0;
+    let costs = EdgeCosts {
+        up: &*up,
+        down: &*down,
+    };
+    let rising = across(&costs, i, j);
+    let falling = across(&costs, j, i);
+    lower_cost(up, k, rising);
+    lower_cost(down, k, falling);
 }
 
 // The triangles of z with its neighbour x at place i and each higher one: the row of x is spread out, so no edge is looked for.
 fn lower_over(
-    first: &[u32],
-    row_heads: &[u32],
+    graph: &Graph,
     up: &mut [u32],
     down: &mut [u32],
     places: &[u32; 4096],
     z: usize,
     i: usize,
 )
-    requires { Beside (graph first.now row_heads.now) (edge_costs up.old down.old) z i × Spread (graph first.now row_heads.now) (get_or row_heads.now i 0) places.now }
-    ensures { Crossed (graph first.now row_heads.now) i (get_or first.now (z + 1) 0) (edge_costs up.old down.old) (edge_costs up.new down.new) }
+    requires { Beside (lent_graph graph.now) (edge_costs up.old down.old) z i × Spread (lent_graph graph.now) (get_or graph.now.heads.now i 0) places.now }
+    ensures { Crossed (lent_graph graph.now) i (get_or graph.now.first.now (z + 1) 0) (edge_costs up.old down.old) (edge_costs up.new down.new) }
 {
-    let end = wide(first[z + 1]);
-    let mut j = i + 1;
-    while j < end {
-        let y = wide(row_heads[j]);
-        let k = wide(places[y]);
-        lower_edge(up, down, i, j, k);
-        j += 1;
+    let end = graph.first[z + 1] as usize;
+    for j in i + 1..end {
+        let y = graph.heads[j] as usize;
+        lower_edge(up, down, i, j, places[y] as usize);
     }
 }
 
 // The turn of x: each lower row that waits for x goes on to wait for its next entry, and its triangles with x are taken.
-fn lower_row(
-    first: &[u32],
-    row_heads: &[u32],
-    up: &mut [u32],
-    down: &mut [u32],
-    links: &mut [u32; 4096],
-    places: &mut [u32; 4096],
-    x: usize,
-)
-    requires { Lists (graph first.now row_heads.now) (edge_costs up.old down.old) × (x < count first.now) × Spread (graph first.now row_heads.now) x places.old × Waiting (graph first.now row_heads.now) x (get_or links.old x 0) links.old places.old × PassedBelow (graph first.now row_heads.now) x x places.old }
-    ensures { Turned (graph first.now row_heads.now) x (edge_costs up.old down.old) (x + 1) (edge_costs up.new down.new) × Waiting (graph first.now row_heads.now) x 0 links.new places.new × PassedBelow (graph first.now row_heads.now) x (x + 1) places.new }
+fn lower_row(graph: &Graph, up: &mut [u32], down: &mut [u32], waits: &mut Waits, x: usize)
+    requires lists { Lists (lent_graph graph.now) (edge_costs up.old down.old) }
+    requires within { x < count graph.now.first.now }
+    requires spread { Spread (lent_graph graph.now) x waits.old.places }
+    requires waits { Waiting (lent_graph graph.now) x (get_or waits.old.links x 0) waits.old.links waits.old.places }
+    requires passed { PassedBelow (lent_graph graph.now) x x waits.old.places }
+    ensures turned { Turned (lent_graph graph.now) x (edge_costs up.old down.old) (x + 1) (edge_costs up.new down.new) }
+    ensures waits { Waiting (lent_graph graph.now) x 0 waits.new.links waits.new.places }
+    ensures passed { PassedBelow (lent_graph graph.now) x (x + 1) waits.new.places }
 {
-    let mut k = wide(links[x]);
+    // A walk: each place tells the next, nothing is counted.
+    let mut k = waits.links[x] as usize;
     while 0 < k {
         let z = k - 1;
-        k = wide(links[z]);
-        let i = wide(places[z]);
-        queue_row(first, row_heads, links, places, z, i + 1);
-        lower_over(first, row_heads, up, down, places, z, i);
+        let i = waits.places[z] as usize;
+        k = waits.links[z] as usize;
+        waits.queue_row(graph, z, i + 1);
+        lower_over(graph, up, down, &waits.places, z, i);
     }
 }
 
 // The turns of all positions, from the lowest up: the costs of all lower rows are final then.
-// In the turn of x `links` has, below x, the next row that waits with this one, and from x on the first row that waits for this position, each
-// plus 1; `places` has, below x, where the row waits, and above x the place of the edge from x.
-fn lower_all(n: usize, first: &[u32], row_heads: &[u32], up: &mut [u32], down: &mut [u32])
-    requires { Lists (graph first.now row_heads.now) (edge_costs up.old down.old) × (n ≡ count first.now) }
-    ensures { Turned (graph first.now row_heads.now) 0 (edge_costs up.old down.old) n (edge_costs up.new down.new) }
+// In the turn of x the places have, above x, the place of the edge from x: no row that waits has its own there.
+fn lower_all(n: usize, graph: &Graph, up: &mut [u32], down: &mut [u32])
+    requires { Lists (lent_graph graph.now) (edge_costs up.old down.old) × (n ≡ count graph.now.first.now) }
+    ensures { Turned (lent_graph graph.now) 0 (edge_costs up.old down.old) n (edge_costs up.new down.new) }
 {
-    let mut links = [0u32; 4096];
-    let mut places = [0u32; 4096];
-    let mut x = 0;
-    while x < n {
-        spread_row(first, row_heads, &mut places, x);
-        lower_row(first, row_heads, up, down, &mut links, &mut places, x);
-        queue_row(first, row_heads, &mut links, &mut places, x, wide(first[x]));
-        x += 1;
+    let mut waits = Waits::new();
+    for x in 0..n {
+        spread_row(graph, &mut waits.places, x);
+        lower_row(graph, up, down, &mut waits, x);
+        waits.queue_row(graph, x, graph.first[x] as usize);
     }
 }
 
 // The customised costs, written into up and down: arcs onto their edges, then each position's lower triangles, from the lowest position up.
-pub fn customise_costs(
-    tails: &[u32],
-    heads: &[u32],
-    costs: &[u32],
-    order: &[u32],
-    rank: &[u32],
-    first: &[u32],
-    row_heads: &[u32],
-    up: &mut [u32],
-    down: &mut [u32],
-)
-    requires { Accepted (net tails.now heads.now costs.now order.now) rank.now (graph first.now row_heads.now) (edge_costs up.old down.old) }
-    ensures { edge_costs up.new down.new ≡ customised_costs (net tails.now heads.now costs.now order.now) (graph first.now row_heads.now) (edge_costs up.old down.old) }
+pub fn customise_costs(net: &Net, rank: &[u32], graph: &Graph, up: &mut [u32], down: &mut [u32])
+    requires { Accepted (lent_net net.now) rank.now (lent_graph graph.now) (edge_costs up.old down.old) }
+    ensures { edge_costs up.new down.new ≡ customised_costs (lent_net net.now) (lent_graph graph.now) (edge_costs up.old down.old) }
 {
-    fill(up, 0, Cost::CLOSED.0);
-    fill(down, 0, Cost::CLOSED.0);
-    let mut m = 0;
-    while m < tails.len() {
+    up.fill(Cost::CLOSED.0);
+    down.fill(Cost::CLOSED.0);
+    for (m, &tail) in net.tails.iter().enumerate() {
         lay_arc(
             rank,
-            first,
-            row_heads,
+            graph,
             up,
             down,
-            Junction(tails[m]),
-            Junction(heads[m]),
-            Cost(costs[m]),
+            Junction(tail),
+            Junction(net.heads[m]),
+            Cost(net.costs[m]),
         );
-        m += 1;
     }
-    lower_all(order.len(), first, row_heads, up, down);
+    lower_all(net.order.len(), graph, up, down);
 }

@@ -18,11 +18,11 @@ use Rattle.theory.specs.Parents.{Parent}
 use Rattle.theory.specs.Rows.{InRow, count, Lists}
 use Rattle.theory.proofs.Best.{best_start, best_on}
 use Rattle.theory.proofs.Distance.{label_lower, label_small}
-use Rattle.theory.proofs.Held.{step_small}
 use Rattle.theory.proofs.Parents.{chain_only}
 use Rattle.theory.proofs.Rows.{linked_i, linked_third}
 use Rattle.theory.proofs.Words.{either, split, true_holds, true_false, holds_true}
-use Rattle.lists.specs.Lent.{part, chosen}
+use Rattle.rules.specs.Lent.{chosen}
+use Rattle.lists.specs.Lent.{part}
 use Rattle.distance.specs.Labelled.{Climbed, Offered, kept, RowOf, HandedOn}
 use Rattle.distance.proofs.Parent.{RowEnds, lone, parent, parent_below}
 use Rattle.distance.proofs.RowPart.{row_at_lem, row_within, row_entry, costs_long, cost_at}
@@ -85,13 +85,11 @@ module _ {G : Graph} {C : EdgeCosts} (L : Lists G C) {d : Direction} {s q from t
       (λ e. absurd (n (K.near j a b (ltb-true (get_or labels j 0) none e))))
       (λ e. omega (arith, ltb-false (get_or labels j 0) none e, stage_top K.state j b))
 
-  module _ (us : (k : ℕ) → get_or C.up k 0 ≤ closed) (ds : (k : ℕ) → get_or C.down k 0 ≤ closed) where
+  module _ (small : (a b : ℕ) → step a b ≤ closed) where
     -- what `hand_on` asks
-    pub rung_row : RowOf q (part from to G.heads) (part from to (chosen d C)) labels came
+    pub rung_row : RowOf q (part from to G.heads) (part from to (chosen d C)) labels
     rung_row =
         record {
-          long = K.state.long;
-          came_long = K.state.came_long;
           same = costs_long L E d;
           own = omega (arith, K.below, L.few);
           within = λ i l. omega (arith, row_within L E i l, L.few);
@@ -104,7 +102,7 @@ module _ {G : Graph} {C : EdgeCosts} (L : Lists G C) {d : Direction} {s q from t
                 arith,
                 stage_label K.state q K.below (omega arith),
                 stage_top K.state q K.below,
-                label_small (linked G) step s (step_small G C us ds d) q (omega (arith, stage_label K.state q K.below (omega arith), stage_top K.state q K.below)),
+                label_small (linked G) step s small q (omega (arith, stage_label K.state q K.below (omega arith), stage_top K.state q K.below)),
                 K.below,
                 L.few,
               );
@@ -115,7 +113,8 @@ module _ {G : Graph} {C : EdgeCosts} (L : Lists G C) {d : Direction} {s q from t
     rung_end b =
         stage_all
         (stage_skip turned (count G.first) (omega (arith, K.above)) K.below (λ j x y z. unlabelled j x z (lone L.rows E b j x)))
-        (chain_only L.rows step (step_small G C us ds d) s)
+        (chain_only L.rows step small s)
+        small
       where
         turned : Stage (count G.first) (linked G) step s (suc q) labels came
         turned =

@@ -14,7 +14,7 @@ use Rattle.rules.specs.Graph.{Graph}
 use Rattle.rules.specs.Hierarchy.{EdgeCosts, linked, along, held}
 use Rattle.rules.specs.declared.Direction.TheVariants.{Up, Down}
 use Rattle.theory.specs.Parents.{Parent, Chain, here, higher}
-use Rattle.theory.specs.Rows.{count, Rows, Lists}
+use Rattle.theory.specs.Rows.{count, Rows}
 use Rattle.theory.proofs.Best.{Best, best_start, best_on, best_lowest}
 use Rattle.theory.proofs.Words.{either, split, least_same, lowest_same}
 use Rattle.distance.specs.Labelled.{Climbed, Offered, sums_at, Chained, Met, MetBetween}
@@ -90,18 +90,6 @@ module _ {G : Graph} (R : Rows (count G.first) G) {a b : List ℕ} {q from to su
       record { is_least = B.is; is_lowest = λ g. sym (best_lowest B g) }
 
 -- ---- what the climbs and the meeting give
-
-module _ {G : Graph} {C : EdgeCosts} (L : Lists G C) where
-  -- the labels of a climb stand on the chain
-  pub chained : {step : ℕ → ℕ → ℕ} {t : ℕ} {labels came : List ℕ} → t < count G.first
-      → Climbed (count G.first) (linked G) step t labels came → Chained G t labels
-  chained {step} {t} l K =
-      record {
-        rows = L.rows;
-        few = L.few;
-        start = l;
-        on_chain = λ p h g. K.on_chain p (omega (arith, K.labelled p h));
-      }
 
 module _ {n : ℕ} {joined : ℕ → ℕ → Bool} {cost : ℕ → ℕ → ℕ} {s t : ℕ} {a b wa wb : List ℕ} {sum at : ℕ}
     (A : Climbed n joined (along Up cost) s a wa) (B : Climbed n joined (along Down cost) t b wb) (M : Met n a b sum at) where

@@ -4,7 +4,10 @@ use Prim.Native.Nat.{ℕ, suc, ◌+◌, ◌-◌, ◌≤◌, ◌<◌}
 use mathlib.Core.Path.{◌≡◌, sym, ap, ◌∙◌}
 use mathlib.Core.List.{List}
 use native.Mathlib.Omega.{arith}
-use lib.Dec.{T}
+use lib.Dec.{T, ltb}
+use borrow.Author.Tests.{ltb-true, ltb-false}
+use Rattle.std.proofs.Common.{Some, None, slice_get, add-zero}
+use Rattle.std.proofs.lemmas.Option.{get_or_from_slice_get, slice_get-get_or, slice_get_past}
 use lib.ListN.{length, get_or, drop, length-take, length-drop}
 use lib.Seq.{get_or-take, get_or-drop}
 use Rattle.rules.specs.Graph.{Graph}
@@ -14,7 +17,9 @@ use Rattle.rules.specs.declared.Direction.{Direction}
 use Rattle.theory.specs.Rows.{InRow, count, Lists}
 use Rattle.theory.proofs.Held.{held_up, held_down}
 use Rattle.theory.proofs.Rows.{in_heads, linked_e}
-use Rattle.lists.specs.Lent.{part, chosen}
+use Rattle.theory.proofs.Words.{either, split}
+use Rattle.rules.specs.Lent.{chosen}
+use Rattle.lists.specs.Lent.{part}
 use Rattle.distance.proofs.Parent.{RowEnds, in_lists, in_part, between_ends}
 
 -- a part has as many as asked for
@@ -25,9 +30,29 @@ length_part f t l h = length-take (t - f) (drop f l) ∙ omega (arith, length-dr
 part_at : (f t : ℕ) (l : List ℕ) (i : ℕ) → i < t - f → get_or (part f t l) i 0 ≡ get_or l (f + i) 0
 part_at f t l i h = get_or-take (t - f) (drop f l) i 0 h ∙ get_or-drop f l i 0
 
+-- the first of a part, where it has one: the list's at the part's start
+pub first_of : (f t : ℕ) (l : List ℕ) → t ≤ length l → (v : ℕ) → Some v ≡ slice_get (part f t l) 0 → (f < t) × (v ≡ get_or l f 0)
+first_of f t l h v e =
+    either (split (ltb f t))
+    (λ u.
+    let b = ltb-true f t u in
+    (b, sym (get_or_from_slice_get (part f t l) 0 v 0 (sym e)) ∙ part_at f t l 0 (omega arith) ∙ ap (λ k. get_or l k 0) (add-zero f)))
+    (λ u.
+    let past : slice_get (part f t l) 0 ≡ None = slice_get_past (part f t l) 0 (omega (arith, length_part f t l h, ltb-false f t u)) in
+    let apart : None ≡ Some v = sym (e ∙ past) in cc)
+
+-- and a part with no first is empty
+pub first_none : (f t : ℕ) (l : List ℕ) → t ≤ length l → None ≡ slice_get (part f t l) 0 → t ≤ f
+first_none f t l h e =
+    either (split (ltb f t))
+    (λ u.
+    let there = slice_get-get_or (part f t l) 0 0 (omega (arith, length_part f t l h, ltb-true f t u)) in
+    let apart : None ≡ Some (get_or (part f t l) 0 0) = e ∙ there in cc)
+    (λ u. ltb-false f t u)
+
 module _ {G : Graph} {C : EdgeCosts} (L : Lists G C) where
   -- both lists reach as far as the rows
-  chosen_long : (d : Direction) (e : ℕ) → e ≤ get_or G.first (count G.first) 0 → e ≤ length (chosen d C)
+  pub chosen_long : (d : Direction) (e : ℕ) → e ≤ get_or G.first (count G.first) 0 → e ≤ length (chosen d C)
   chosen_long Up e h = omega (arith, L.up_long)
   chosen_long Down e h = omega (arith, L.down_long)
 

@@ -127,9 +127,10 @@ module _ {n : ℕ} {joined : ℕ → ℕ → Bool} {step : ℕ → ℕ → ℕ} 
 -- once every position has had its turn, these are the labels, and each came from the lowest position that gives it
 pub stage_all : {n : ℕ} {joined : ℕ → ℕ → Bool} {step : ℕ → ℕ → ℕ} {s : ℕ} {labels came : List ℕ}
     → Stage n joined step s n labels came → ((p : ℕ) → label joined step s p < none → Chain (λ a b. T (joined a b)) p s)
+    → ((a b : ℕ) → step a b ≤ closed)
     → Climbed n joined step s labels came
 unfolding label_from
-stage_all {n} {joined} {step} {s} {labels} {came} S chain =
+stage_all {n} {joined} {step} {s} {labels} {came} S chain small =
     record {
       long = S.long;
       came_long = S.came_long;
@@ -138,4 +139,5 @@ stage_all {n} {joined} {step} {s} {labels} {came} S chain =
           let m : min n p ≡ p = omega arith in
           sym (best_lowest (rw (m, stage_label S p l (omega arith)) at (S.high p h l)) g);
       on_chain = chain;
+      small = small;
     }

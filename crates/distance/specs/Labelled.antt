@@ -11,13 +11,14 @@ use Rattle.rules.specs.declared.Direction.{Direction}
 use Rattle.theory.specs.Parents.{Chain}
 use Rattle.theory.specs.Rows.{Rows, count}
 
--- the labels from s, all on its chain of parents, and where each label above s came from: the lowest such position
+-- the labels from s, all on its chain of parents, and where each label above s came from: the lowest such position; no step is over CLOSED
 pub record Climbed (n : ℕ) (joined : ℕ → ℕ → Bool) (step : ℕ → ℕ → ℕ) (s : ℕ) (labels came : List ℕ) : Type 0 where
   pub long : length labels ≡ 4096
   pub came_long : length came ≡ 4096
   pub labelled : (p : ℕ) → p < n → get_or labels p 0 ≡ label joined step s p
   pub source : (p : ℕ) → s < p → p < n → label joined step s p < none → get_or came p 0 ≡ label_from joined step s p
   pub on_chain : (p : ℕ) → label joined step s p < none → Chain (λ a b. T (joined a b)) p s
+  pub small : (a b : ℕ) → step a b ≤ closed
 
 -- ---- one offer
 
@@ -41,9 +42,7 @@ abbrev pub Small : (known : ℕ) → Type 0
 Small known = known ≢ none → known + closed < none
 
 -- the row of q and its costs, and the labels so far
-pub record RowOf (q : ℕ) (row costs labels came : List ℕ) : Type 0 where
-  pub long : length labels ≡ 4096
-  pub came_long : length came ≡ 4096
+pub record RowOf (q : ℕ) (row costs labels : List ℕ) : Type 0 where
   pub same : length row ≡ length costs
   pub own : q < 4096
   pub within : (i : ℕ) → i < length row → get_or row i 0 < 4096

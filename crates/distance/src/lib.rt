@@ -1,44 +1,26 @@
 // Labels along the chains of parents above a start and a target, and where they meet.
 #![tactic(auto)]
 
-ghost use Rattle.std.specs.Prelude.{◌+◌, ◌<◌, ◌≡◌, length, get_or, replicate};
-ghost use Rattle.rules.specs.Words.{sum_to};
+ghost use Rattle.std.specs.Prelude.{ℕ, ◌≤◌, ◌+◌, ◌<◌, ◌≡◌, length, get_or, replicate};
 ghost use Rattle.rules.specs.Costs.{closed, none, label_over};
 ghost use Rattle.rules.specs.Hierarchy.{edge_costs, linked, held, along};
+ghost use Rattle.rules.specs.Lent.{chosen, lent_graph, lent_costs};
 ghost use Rattle.rules.specs.Calls.{listed_distance};
-ghost use Rattle.rules.specs.Graph.{graph};
 ghost use Rattle.theory.specs.Rows.{count, Lists};
 ghost use Rattle.distance.specs.Labelled.{Climbed, OfferedTo, RowOf, HandedOn, Offered, sums_at, Chained, Met, MetBetween};
 
-use lists::row_costs;
-use rules::{Cost, Direction, NONE, Position, wide};
+use rules::{Cost, Direction, EdgeCosts, Graph, NONE, Position};
 
-// The distance, or the number for none, and the meeting position.
+// The distance, or the number for none, and the meeting position. The sum is no Option: while labels are compared, none is the greatest number.
 #[derive(Clone, Copy)]
 pub struct Meeting {
     pub sum: u64,
     pub at: Position,
 }
 
-// The place at which the row of p starts.
-fn row_start(first: &[u32], p: Position) -> usize
-    requires { p.0 + 1 < length first.now }
-    ensures { result ≡ get_or first.now p.0 0 }
-{
-    let row = p.0 as usize;
-    wide(first[row])
-}
-
-// The place behind the row of p.
-fn row_end(first: &[u32], p: Position) -> usize
-    requires { p.0 + 1 < length first.now }
-    ensures { result ≡ get_or first.now (p.0 + 1) 0 }
-{
-    let row = p.0 as usize;
-    wide(first[row + 1])
-}
-
 // Offers position p the label of position q with an edge's cost added: only a smaller one is taken, and CLOSED gives none.
+// Labels are plain numbers with NONE for none, as Options would take twice the memory of the stack.
+// Labels and where they came from are two lists, as the compiler leaves out a list that nobody reads, but no such part of a struct.
 fn offer(
     labels: &mut [u64; 4096],
     came: &mut [u16; 4096],
@@ -47,7 +29,7 @@ fn offer(
     p: Position,
     cost: Cost,
 )
-    requires { (length labels.old ≡ 4096) × (length came.old ≡ 4096) × (q.0 < 4096) × (p.0 < 4096) × (mine + closed < none) }
+    requires { (q.0 < 4096) × (p.0 < 4096) × (mine + closed < none) }
     ensures { OfferedTo p.0 q.0 (label_over mine cost.0) labels.old came.old labels.new came.new }
 {
     let to = p.0 as usize;
@@ -66,67 +48,62 @@ fn hand_on(
     labels: &mut [u64; 4096],
     came: &mut [u16; 4096],
 )
-    requires { RowOf q.0 row.now costs.now labels.old came.old }
+    requires { RowOf q.0 row.now costs.now labels.old }
     ensures { HandedOn q.0 (get_or labels.old q.0 0) row.now costs.now (length row.now) labels.old came.old labels.new came.new }
 {
-    let own = q.0 as usize;
-    let mine = labels[own];
+    let mine = labels[q.0 as usize];
     if mine == NONE {
         return;
     }
-    let mut i = 0;
-    while i < row.len() {
-        offer(labels, came, q, mine, Position(row[i]), Cost(costs[i]));
-        i += 1;
+    for (i, &p) in row.iter().enumerate() {
+        offer(labels, came, q, mine, Position(p), Cost(costs[i]));
     }
 }
 
+// The list of costs for a direction, and that no cost of either list is over CLOSED, as all are 32-bit numbers.
+// It takes the lists one by one, as of lists inside a struct that is not known.
+fn costs_along<'a>(up: &'a [u32], down: &'a [u32], d: Direction) -> &'a [u32]
+    ensures list { result.now ≡ chosen d (edge_costs up.now down.now) }
+    ensures small_up { (k : ℕ) → get_or up.now k 0 ≤ closed }
+    ensures small_down { (k : ℕ) → get_or down.now k 0 ≤ closed }
+{
+    EdgeCosts { up, down }.along(d)
+}
+
 // The labels from s along its chain of parents, with up costs or with down costs, and for each the lowest position that it came from.
-pub fn climb<'a>(
-    first: &[u32],
-    row_heads: &[u32],
-    up: &'a [u32],
-    down: &'a [u32],
+// A `loop`: the chain of parents is walked along, each row tells the next, and nothing is counted.
+pub fn climb(
+    graph: &Graph,
+    costs: &EdgeCosts,
     d: Direction,
     s: Position,
     labels: &mut [u64; 4096],
     came: &mut [u16; 4096],
 )
-    requires { Lists (graph first.now row_heads.now) (edge_costs up.now down.now) × (s.0 < count first.now) × (labels.old ≡ replicate 4096 none) × (length came.old ≡ 4096) }
-    ensures { Climbed (count first.now) (linked (graph first.now row_heads.now)) (along d (held (graph first.now row_heads.now) (edge_costs up.now down.now))) s.0 labels.new came.new }
+    requires { Lists (lent_graph graph.now) (lent_costs costs.now) × (s.0 < count graph.now.first.now) × (labels.old ≡ replicate 4096 none) }
+    ensures { Climbed (count graph.now.first.now) (linked (lent_graph graph.now)) (along d (held (lent_graph graph.now) (lent_costs costs.now))) s.0 labels.new came.new }
 {
-    let start = s.0 as usize;
-    labels[start] = 0;
+    let listed = costs_along(costs.up, costs.down, d);
+    labels[s.0 as usize] = 0;
     let mut q = s;
-    loop {
-        let from = row_start(first, q);
-        let to = row_end(first, q);
-        if to <= from {
+    'chain: loop {
+        let places = graph.places(q.0 as usize);
+        let row = &graph.heads[places.start..places.end];
+        let Some(&parent) = row.first() else {
             return;
-        }
-        let costs = row_costs(up, down, d, from, to);
-        hand_on(&row_heads[from..to], costs, q, labels, came);
-        q = Position(row_heads[from]);
+        };
+        hand_on(row, &listed[places.start..places.end], q, labels, came);
+        q = Position(parent);
     }
 }
 
-// The sum of both labels of a position: none if it lacks one of them.
-fn both(x: u64, y: u64) -> u64
-    ensures { result ≡ sum_to none x y }
-{
-    if NONE - y <= x {
-        return NONE;
-    }
-    x + y
-}
-
-// Looks at position p: a smaller sum of both labels than the best so far is taken.
+// Looks at position p: a smaller sum of both labels than the best so far is taken, and there is none if p lacks one of them.
 fn look(a: &[u64; 4096], b: &[u64; 4096], p: Position, best: Meeting) -> Meeting
     requires { p.0 < 4096 }
     ensures { Offered p.0 (sums_at a.now b.now p.0) best.sum best.at.0 result.sum result.at.0 }
 {
     let i = p.0 as usize;
-    let sum = both(a[i], b[i]);
+    let sum = a[i].saturating_add(b[i]);
     if sum < best.sum {
         return Meeting { sum, at: p };
     }
@@ -134,97 +111,58 @@ fn look(a: &[u64; 4096], b: &[u64; 4096], p: Position, best: Meeting) -> Meeting
 }
 
 // The least sum of both labels at one position, and the lowest position that has it: only the chain of parents above the target is looked at.
-fn meet(first: &[u32], row_heads: &[u32], a: &[u64; 4096], b: &[u64; 4096], t: Position) -> Meeting
-    requires { Chained (graph first.now row_heads.now) t.0 b.now }
-    ensures { Met (count first.now) a.now b.now result.sum result.at.0 }
+// A `loop`, as in `climb`.
+fn meet(graph: &Graph, a: &[u64; 4096], b: &[u64; 4096], t: Position) -> Meeting
+    requires { Chained (lent_graph graph.now) t.0 b.now }
+    ensures { Met (count graph.now.first.now) a.now b.now result.sum result.at.0 }
 {
     let mut p = t;
     let mut best = Meeting { sum: NONE, at: t };
-    loop {
+    'chain: loop {
         best = look(a, b, p, best);
-        let from = row_start(first, p);
-        if row_end(first, p) <= from {
+        let places = graph.places(p.0 as usize);
+        let Some(&parent) = graph.heads[places.start..places.end].first() else {
             return best;
-        }
-        p = Position(row_heads[from]);
+        };
+        p = Position(parent);
     }
 }
 
-// Where the labels from s and from t meet, whatever the cost lists hold, and where each label came from: up from both ends.
-pub fn find_meeting<'a>(
-    first: &[u32],
-    row_heads: &[u32],
-    up: &'a [u32],
-    down: &'a [u32],
+// Where the labels from s and from t meet, whatever the cost lists hold, and where each label came from: up from both ends. Only where it is
+// put in place of its calls does the compiler see that nobody reads the lists that `ask` lends it, and leaves them out.
+#[inline(always)]
+pub fn find_meeting(
+    graph: &Graph,
+    costs: &EdgeCosts,
     s: Position,
     t: Position,
     came_up: &mut [u16; 4096],
     came_down: &mut [u16; 4096],
 ) -> Meeting
-    requires { Lists (graph first.now row_heads.now) (edge_costs up.now down.now) × (s.0 < count first.now) × (t.0 < count first.now) × (length came_up.old ≡ 4096) × (length came_down.old ≡ 4096) }
-    ensures { MetBetween (graph first.now row_heads.now) (edge_costs up.now down.now) s.0 t.0 result.sum result.at.0 came_up.new came_down.new }
+    requires { Lists (lent_graph graph.now) (lent_costs costs.now) × (s.0 < count graph.now.first.now) × (t.0 < count graph.now.first.now) × (length came_up.old ≡ 4096) × (length came_down.old ≡ 4096) }
+    ensures { MetBetween (lent_graph graph.now) (lent_costs costs.now) s.0 t.0 result.sum result.at.0 came_up.new came_down.new }
 {
     let mut from_start = [NONE; 4096];
     let mut from_target = [NONE; 4096];
+    climb(graph, costs, Direction::Up, s, &mut from_start, came_up);
     climb(
-        first,
-        row_heads,
-        up,
-        down,
-        Direction::Up,
-        s,
-        &mut from_start,
-        came_up,
-    );
-    climb(
-        first,
-        row_heads,
-        up,
-        down,
+        graph,
+        costs,
         Direction::Down,
         t,
         &mut from_target,
         came_down,
     );
-    meet(first, row_heads, &from_start, &from_target, t)
+    meet(graph, &from_start, &from_target, t)
 }
 
-// The distance between two positions, whatever the cost lists hold: as above, but nobody asks where a label came from, and what is only
-// written here is left out by the compiler.
-pub fn ask<'a>(
-    first: &[u32],
-    row_heads: &[u32],
-    up: &'a [u32],
-    down: &'a [u32],
-    s: Position,
-    t: Position,
-) -> u64
-    requires { Lists (graph first.now row_heads.now) (edge_costs up.now down.now) × (s.0 < count first.now) × (t.0 < count first.now) }
-    ensures { result ≡ listed_distance (count first.now) (graph first.now row_heads.now) (edge_costs up.now down.now) s.0 t.0 }
+// The distance between two positions, whatever the cost lists hold: as above, but nobody asks where a label came from.
+// NONE for none, as the definition listed_distance has it: the public call turns it into an Option.
+pub fn ask(graph: &Graph, costs: &EdgeCosts, s: Position, t: Position) -> u64
+    requires { Lists (lent_graph graph.now) (lent_costs costs.now) × (s.0 < count graph.now.first.now) × (t.0 < count graph.now.first.now) }
+    ensures { result ≡ listed_distance (count graph.now.first.now) (lent_graph graph.now) (lent_costs costs.now) s.0 t.0 }
 {
-    let mut from_start = [NONE; 4096];
-    let mut from_target = [NONE; 4096];
-    let mut came = [0u16; 4096];
-    climb(
-        first,
-        row_heads,
-        up,
-        down,
-        Direction::Up,
-        s,
-        &mut from_start,
-        &mut came,
-    );
-    climb(
-        first,
-        row_heads,
-        up,
-        down,
-        Direction::Down,
-        t,
-        &mut from_target,
-        &mut came,
-    );
-    let met = meet(first, row_heads, &from_start, &from_target, t);
-    met.sum
+    let mut came_up = [0u16; 4096];
+    let mut came_down = [0u16; 4096];
+    find_meeting(graph, costs, s, t, &mut came_up, &mut came_down).sum
 }

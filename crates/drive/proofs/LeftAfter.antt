@@ -16,8 +16,9 @@ use Rattle.rules.specs.Route.{Event, drives, misfits, trouble, driven, route_lis
 use Rattle.theory.proofs.Words.{either, split}
 use Rattle.lists.proofs.Filled.{filled_whole}
 use Rattle.unpack.specs.Opening.{ran, put}
-use Rattle.unpack.specs.declared.Opened.TheVariants.{Next, Full, Misfit}
-use Rattle.unpack.specs.declared.Opened.{Opened}
+use Rattle.unpack.specs.declared.Stuck.TheVariants.{Full, Misfit}
+use Rattle.std.specs.Prelude.{Result, Ok, Err}
+use Rattle.unpack.specs.declared.Stuck.{Stuck}
 use Rattle.unpack.proofs.Put.{Stops, stops_short, put_nil, put_misfit, put_more, put_full}
 use Rattle.drive.specs.Driving.{left_after}
 
@@ -32,12 +33,12 @@ record Written (es : List Event) (at : ℕ) (route : List ℕ) (free : ℕ) (the
   pub clear : trouble (length route - at) es ≡ 0
 
 -- the answer "next free place" says so
-put_written : (es : List Event) (at : ℕ) (route : List ℕ) (free : ℕ) (then : List ℕ) → at ≤ length route → ran (Next free) then ≡ put es at route
+put_written : (es : List Event) (at : ℕ) (route : List ℕ) (free : ℕ) (then : List ℕ) → at ≤ length route → ran (Ok free) then ≡ put es at route
     → Written es at route free then
 unfolding trouble driven
 put_written [] at route free then h e =
-    let g : ran (Next free) then ≡ ran (Next at) route = e ∙ put_nil at route in
-    let n : Next free ≡ Next at = ap (λ r. r.answer) g in
+    let g : ran (Ok free) then ≡ ran (Ok at) route = e ∙ put_nil at route in
+    let n : Ok free ≡ Ok at = ap (λ r. r.answer) g in
     let f : free ≡ at = cc in
     let r : then ≡ route = ap (λ r. r.route) g in
     record {
@@ -52,7 +53,7 @@ put_written [] at route free then h e =
     none_left zero = refl
     none_left (suc k) = refl
 put_written (misfits ∷ es) at route free then h e =
-    let n : Next free ≡ Misfit = ap (λ r. r.answer) (e ∙ put_misfit es at route) in
+    let n : Ok free ≡ Err Misfit = ap (λ r. r.answer) (e ∙ put_misfit es at route) in
     let z : ◌≡◌ {A = ℕ} 0 1 = cc in
     absurd (omega arith)
 put_written (drives i ∷ es) at route free then h e =
@@ -74,24 +75,24 @@ put_written (drives i ∷ es) at route free then h e =
       clear = rw left W.clear;
     })
     (λ t.
-    let n : Next free ≡ Full = ap (λ r. r.answer) (e ∙ put_full i es at route t) in
+    let n : Ok free ≡ Err Full = ap (λ r. r.answer) (e ∙ put_full i es at route t) in
     let z : ◌≡◌ {A = ℕ} 0 1 = cc in
     absurd (omega arith))
 
 -- the paper's number of an answer that stops
-abbrev trouble_of : Opened → ℕ
-trouble_of (Next at) = 0
-trouble_of Full = 12
-trouble_of Misfit = 13
+abbrev trouble_of : Result ℕ Stuck → ℕ
+trouble_of (Ok at) = 0
+trouble_of (Err Full) = 12
+trouble_of (Err Misfit) = 13
 
 -- an answer that stops is the first trouble met
-put_trouble : (es : List Event) (at : ℕ) (route : List ℕ) (answer : Opened) (then : List ℕ) → at ≤ length route → Stops answer
+put_trouble : (es : List Event) (at : ℕ) (route : List ℕ) (answer : Result ℕ Stuck) (then : List ℕ) → at ≤ length route → Stops answer
     → ran answer then ≡ put es at route → (trouble (length route - at) es ≡ trouble_of answer) × (length then ≡ length route)
 unfolding trouble
 put_trouble [] at route answer then h s e = absurd (stops_short answer at s (ap (λ r. r.answer) (e ∙ put_nil at route)))
 put_trouble (misfits ∷ es) at route answer then h s e =
     let g = e ∙ put_misfit es at route in
-    let q : answer ≡ Misfit = ap (λ r. r.answer) g in
+    let q : answer ≡ Err Misfit = ap (λ r. r.answer) g in
     (misfit (length route - at) ∙ ap trouble_of (sym q), ap (λ r. length r.route) g)
   where
     misfit : (k : ℕ) → trouble k (misfits ∷ es) ≡ 13
@@ -107,7 +108,7 @@ put_trouble (drives i ∷ es) at route answer then h s e =
     (rw left W.0, W.1 ∙ n))
     (λ t.
     let g = e ∙ put_full i es at route t in
-    let q : answer ≡ Full = ap (λ r. r.answer) g in
+    let q : answer ≡ Err Full = ap (λ r. r.answer) g in
     let z : length route - at ≡ 0 = omega (arith, ltb-false at (length route) t) in
     (rw z (ap trouble_of (sym q)), ap (λ r. length r.route) g))
 
@@ -124,17 +125,17 @@ unfolding driven_leaves
 leaves_trouble way d room k e n = rw (e, n) refl
 
 -- an answer that stops leaves CLOSED everywhere
-stopped_left : (told : Opened) (d : ℕ) (then : List ℕ) → Stops told → left_after told d then ≡ route_left (replicate (length then) closed) (refused (trouble_of told) 0)
-stopped_left (Next k) d then s = absurd s
-stopped_left Full d then s = ap (λ l. route_left l (refused 12 0)) (filled_whole then closed)
-stopped_left Misfit d then s = ap (λ l. route_left l (refused 13 0)) (filled_whole then closed)
+stopped_left : (told : Result ℕ Stuck) (d : ℕ) (then : List ℕ) → Stops told → left_after told d then ≡ route_left (replicate (length then) closed) (refused (trouble_of told) 0)
+stopped_left (Ok k) d then s = absurd s
+stopped_left (Err Full) d then s = ap (λ l. route_left l (refused 12 0)) (filled_whole then closed)
+stopped_left (Err Misfit) d then s = ap (λ l. route_left l (refused 13 0)) (filled_whole then closed)
 
-some_trouble : (told : Opened) → Stops told → eqb (trouble_of told) 0 ≡ false
-some_trouble (Next k) s = absurd s
-some_trouble Full s = refl
-some_trouble Misfit s = refl
+some_trouble : (told : Result ℕ Stuck) → Stops told → eqb (trouble_of told) 0 ≡ false
+some_trouble (Ok k) s = absurd s
+some_trouble (Err Full) s = refl
+some_trouble (Err Misfit) s = refl
 
-left_stopped : (way : List Event) (d : ℕ) (told : Opened) (route then : List ℕ) → Stops told → ran told then ≡ put way 0 route
+left_stopped : (way : List Event) (d : ℕ) (told : Result ℕ Stuck) (route then : List ℕ) → Stops told → ran told then ≡ put way 0 route
     → left_after told d then ≡ driven_leaves way d (length route)
 left_stopped way d told route then s e =
     let W = put_trouble way 0 route told then (omega arith) s e in
@@ -144,8 +145,8 @@ left_stopped way d told route then s e =
     ∙ sym (leaves_trouble way d (length route) (trouble_of told) (rw whole at W.0) (some_trouble told s))
 
 -- "The reply is distance and number of arcs; the route list holds arc numbers in driving order, and 4,294,967,295 in all other places"
-left_driven : (way : List Event) (d free : ℕ) (route then : List ℕ) → ran (Next free) then ≡ put way 0 route
-    → left_after (Next free) d then ≡ driven_leaves way d (length route)
+left_driven : (way : List Event) (d free : ℕ) (route then : List ℕ) → ran (Ok free) then ≡ put way 0 route
+    → left_after (Ok free) d then ≡ driven_leaves way d (length route)
 left_driven way d free route then e =
     let W = put_written way 0 route free then (omega arith) e in
     let arcs : free ≡ length (driven way) = omega (arith, W.free_is) in
@@ -157,14 +158,13 @@ left_driven way d free route then e =
     ∙ sym (leaves_clear way d (length route) (rw whole at W.clear))
 
 -- so what is left after the way has been driven is what the definition says
-pub left_after_lem : (way : List Event) (d : ℕ) (told : Opened) (route then : List ℕ) → ran told then ≡ put way 0 route
+pub left_after_lem : (way : List Event) (d : ℕ) (told : Result ℕ Stuck) (route then : List ℕ) → ran told then ≡ put way 0 route
     → left_after told d then ≡ driven_leaves way d (length route)
-left_after_lem way d (Next free) route then e = left_driven way d free route then e
-left_after_lem way d Full route then e = left_stopped way d Full route then tt e
-left_after_lem way d Misfit route then e = left_stopped way d Misfit route then tt e
+left_after_lem way d (Ok free) route then e = left_driven way d free route then e
+left_after_lem way d (Err why) route then e = left_stopped way d (Err why) route then tt e
 
 -- and the arcs fit the list
-pub left_fits : (way : List Event) (told : Opened) (route then : List ℕ) → ran told then ≡ put way 0 route → (k : ℕ) → told ≡ Next k → k ≤ length then
+pub left_fits : (way : List Event) (told : Result ℕ Stuck) (route then : List ℕ) → ran told then ≡ put way 0 route → (k : ℕ) → told ≡ Ok k → k ≤ length then
 left_fits way told route then e k g =
     let W = put_written way 0 route k then (omega arith) (rw (← g) e) in
     omega (arith, W.room, W.long)

@@ -4,3 +4,4 @@ pub mod WayOver
 pub mod LeftAfter
 pub mod Given
 pub mod RouteLeaves
+pub mod Ends

@@ -28,7 +28,8 @@ use Rattle.lists.specs.Lent.{filled}
 use Rattle.lists.proofs.Filled.{filled_whole}
 use Rattle.distance.specs.Labelled.{MetBetween}
 use Rattle.unpack.specs.Opening.{ran, put}
-use Rattle.unpack.specs.declared.Opened.{Opened}
+use Rattle.unpack.specs.declared.Stuck.{Stuck}
+use Rattle.std.specs.Prelude.{Result}
 use Rattle.drive.specs.Driving.{Leads, Traced, steps, Walkable, way_over, left_after}
 use Rattle.drive.proofs.LeftAfter.{left_after_lem}
 use Rattle.drive.proofs.Steps.{traced_kept, walkable, steps_pieces}
@@ -152,7 +153,7 @@ module _ {N : Net} {rank : List ℕ} {G : Graph} {C : EdgeCosts} {from to : ℕ}
             ∙ sym (listed_over N G C s t)
 
         -- "then 12 and 13": what is left once it has been driven
-        pub route_driven : (told : Opened) (route then : List ℕ) {left : RouteLeaves}
+        pub route_driven : (told : Result ℕ Stuck) (route then : List ℕ) {left : RouteLeaves}
             → ran told then ≡ put (way_over N G C (steps way start (end - start))) 0 route → left ≡ left_after told sum then
             → left ≡ route_leaves N rank G C from to route
         route_driven told route then e f =

@@ -10,9 +10,9 @@ use Rattle.rules.specs.Hierarchy.{EdgeCosts}
 use Rattle.rules.specs.Net.{Net}
 use Rattle.rules.specs.Route.{Piece, piece}
 use Rattle.unpack.specs.Opening.{ran, put, way_along}
-use Rattle.unpack.specs.declared.Opened.TheVariants.{Next}
-use Rattle.unpack.specs.declared.Opened.{Opened}
-use Rattle.unpack.proofs.Put.{Stops, put_nil, put_on, put_stop}
+use Rattle.std.specs.Prelude.{Result, Ok, Err}
+use Rattle.unpack.specs.declared.Stuck.{Stuck}
+use Rattle.unpack.proofs.Put.{put_nil, put_on, put_stop}
 use Rattle.drive.specs.Driving.{steps, way_over}
 
 module _ (N : Net) (G : Graph) (C : EdgeCosts) (way : List ℕ) (from to : ℕ) where
@@ -35,13 +35,13 @@ module _ (N : Net) (G : Graph) (C : EdgeCosts) (way : List ℕ) (from to : ℕ) 
 
   module _ {before route : List ℕ} {i at : ℕ} (D : Driving before i at route) where
     -- all have been
-    pub driving_end : to ≤ i → ran (Next at) route ≡ put (way_over N G C (steps way from (to - from))) 0 before
+    pub driving_end : to ≤ i → ran (Ok at) route ≡ put (way_over N G C (steps way from (to - from))) 0 before
     unfolding steps
     driving_end h =
         let e : to - i ≡ 0 = omega arith in
         sym (D.still ∙ rw (e, over_none) (put_nil at route))
 
-    module _ (more : i < to) {told : Opened} {after : List ℕ} (driven : ran told after ≡ put (way_along N G C (get_or way i 0) (get_or way (i + 1) 0)) at route) where
+    module _ (more : i < to) {told : Result ℕ Stuck} {after : List ℕ} (driven : ran told after ≡ put (way_along N G C (get_or way i 0) (get_or way (i + 1) 0)) at route) where
       next : way_over N G C (steps way i (to - i))
           ≡ way_along N G C (get_or way i 0) (get_or way (i + 1) 0) ++ way_over N G C (steps way (i + 1) (to - (i + 1)))
       unfolding steps
@@ -50,7 +50,7 @@ module _ (N : Net) (G : Graph) (C : EdgeCosts) (way : List ℕ) (from to : ℕ) 
           rw (e, ← add-one i) (over_more (get_or way i 0) (get_or way (i + 1) 0) (steps way (i + 1) (to - (i + 1))))
 
       -- the next one is driven to its end
-      pub driving_more : (free : ℕ) → told ≡ Next free → Driving before (i + 1) free after
+      pub driving_more : (free : ℕ) → told ≡ Ok free → Driving before (i + 1) free after
       driving_more free e =
           record {
             low = omega (arith, D.low);
@@ -60,7 +60,7 @@ module _ (N : Net) (G : Graph) (C : EdgeCosts) (way : List ℕ) (from to : ℕ) 
           }
 
       -- or stops the drive
-      pub driving_stop : Stops told → ran told after ≡ put (way_over N G C (steps way from (to - from))) 0 before
-      driving_stop s =
-          put_stop (way_along N G C (get_or way i 0) (get_or way (i + 1) 0)) (way_over N G C (steps way (i + 1) (to - (i + 1)))) at route told after s driven
+      pub driving_stop : {why : Stuck} → told ≡ Err why → ran (Err why) after ≡ put (way_over N G C (steps way from (to - from))) 0 before
+      driving_stop {why} e =
+          put_stop (way_along N G C (get_or way i 0) (get_or way (i + 1) 0)) (way_over N G C (steps way (i + 1) (to - (i + 1)))) at route (Err why) after tt (rw e at driven)
           ∙ sym (D.still ∙ ap (λ es. put es at route) next)

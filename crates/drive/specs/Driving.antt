@@ -1,10 +1,10 @@
 -- What following the labels back, driving the way and the whole of route after its checks ask and promise. Assumes nothing.
-use Rattle.std.specs.Prelude.{ℕ, zero, suc, ◌+◌, ◌-◌, ◌≤◌, ◌<◌, ◌≡◌, ◌≢◌, List, [], ◌∷◌, T, length, get_or}
+use Rattle.std.specs.Prelude.{ℕ, zero, suc, ◌+◌, ◌-◌, ◌≤◌, ◌<◌, ◌≡◌, ◌≢◌, List, [], ◌∷◌, T, length, get_or, Result, Ok, Err}
 use Rattle.rules.specs.Calls.{RouteLeaves, route_left}
 use Rattle.rules.specs.Costs.{closed}
 use Rattle.rules.specs.Graph.{Graph}
 use Rattle.rules.specs.Hierarchy.{EdgeCosts, linked, held}
-use Rattle.rules.specs.Net.{Net, road_between, arc_between}
+use Rattle.rules.specs.Net.{Net, size, arcs, tail, road_between, arc_between}
 use Rattle.rules.specs.Replies.{refused, drive}
 use Rattle.rules.specs.Route.{Piece, piece, Event, opened_all}
 use Rattle.rules.specs.declared.Direction.TheVariants.{Up, Down}
@@ -12,20 +12,20 @@ use Rattle.rules.specs.declared.Direction.{Direction}
 use Rattle.theory.specs.Orders.{Ordered}
 use Rattle.theory.specs.Rows.{count, Lists}
 use Rattle.lists.specs.Lent.{filled}
-use Rattle.unpack.specs.declared.Opened.TheVariants.{Next, Full, Misfit}
-use Rattle.unpack.specs.declared.Opened.{Opened}
+use Rattle.unpack.specs.declared.Stuck.{Stuck}
+use Rattle.unpack.specs.declared.Stuck.TheVariants.{Full, Misfit}
 
 -- ---- what is given
 
 -- roads, order, graph and cost lists that driving reads
-pub record Given (tails heads costs order : List ℕ) (G : Graph) (C : EdgeCosts) : Type 0 where
+pub record Given (N : Net) (G : Graph) (C : EdgeCosts) : Type 0 where
   pub lists : Lists G C
-  pub size_is : length order ≡ count G.first
-  pub seats : Ordered order
-  pub heads_long : length heads ≡ length tails
-  pub costs_long : length costs ≡ length tails
-  pub fit : length tails ≤ 16384
-  pub tails_in : (i : ℕ) → i < length tails → get_or tails i 0 < 4096
+  pub size_is : size N ≡ count G.first
+  pub seats : Ordered N.order
+  pub heads_long : length N.heads ≡ arcs N
+  pub costs_long : length N.costs ≡ arcs N
+  pub fit : arcs N ≤ 16384
+  pub tails_in : (i : ℕ) → i < arcs N → tail N i < 4096
 
 -- ---- labels followed back
 
@@ -75,7 +75,7 @@ way_over N G C = opened_all (linked G) (held G C) (road_between N) (arc_between 
 
 -- what route leaves by what driving the way of a distance answered: "the route list holds arc numbers in driving order, and 4,294,967,295 in
 -- all other places"; "after 12 or 13 every route place is 4,294,967,295"
-abbrev pub left_after : (told : Opened) (d : ℕ) (route : List ℕ) → RouteLeaves
-left_after (Next k) d route = route_left (filled route k closed) (drive d k)
-left_after Full d route = route_left (filled route 0 closed) (refused 12 0)
-left_after Misfit d route = route_left (filled route 0 closed) (refused 13 0)
+abbrev pub left_after : (told : Result ℕ Stuck) (d : ℕ) (route : List ℕ) → RouteLeaves
+left_after (Ok k) d route = route_left (filled route k closed) (drive d k)
+left_after (Err Full) d route = route_left (filled route 0 closed) (refused 12 0)
+left_after (Err Misfit) d route = route_left (filled route 0 closed) (refused 13 0)

@@ -1,23 +1,21 @@
 // Route after its checks: the labels of both ends are followed back from where they meet, and each edge on the way is opened into its arcs.
 #![tactic(auto)]
 
-ghost use Rattle.std.specs.Prelude.{ℕ, ◌-◌, ◌≤◌, ◌<◌, ◌≡◌, List, T, length, get_or};
+ghost use Rattle.std.specs.Prelude.{ℕ, List, ◌-◌, ◌≤◌, ◌<◌, ◌≡◌, Ok, T, length, get_or};
 ghost use Rattle.rules.specs.Replies.{route_reply};
-ghost use Rattle.rules.specs.Net.{net};
+ghost use Rattle.rules.specs.Lent.{lent_net, lent_graph, lent_costs};
 ghost use Rattle.rules.specs.Refusals.{passes};
 ghost use Rattle.rules.specs.Calls.{route_left, route_checks, route_leaves};
-ghost use Rattle.rules.specs.Graph.{graph};
-ghost use Rattle.rules.specs.Hierarchy.{edge_costs, linked};
-ghost use Rattle.roads.specs.Roads.{ByTail};
-ghost use Rattle.unpack.specs.declared.Opened.TheVariants.{Next};
-ghost use Rattle.unpack.specs.Opening.{ran, put, way_along, Ready};
+ghost use Rattle.rules.specs.Hierarchy.{linked};
+ghost use Rattle.roads.specs.Roads.{ByTail, with_tails};
+ghost use Rattle.unpack.specs.Opening.{ran, put, way_along, IsReady};
 ghost use Rattle.drive.specs.Driving.{Given, Leads, way_place, Beside, Traced, steps, Walkable, way_over, left_after};
 
 use distance::find_meeting;
 use lists::{fill, find_edge, position_of};
-use roads::thread_tails;
-use rules::{Cost, Direction, Found, Junction, NONE, Position, Refusal, RouteAnswer, wide16};
-use unpack::{Opened, find_lows, open_down, open_up};
+use roads::Roads;
+use rules::{Cost, Direction, Drive, EdgeCosts, Graph, Junction, NONE, Net, Position, Refusal};
+use unpack::{Opener, Stuck, find_lows};
 
 // The place on the way of the i-th position back from the meeting position, which has the middle place.
 fn way_place(d: Direction, i: usize) -> usize
@@ -31,7 +29,7 @@ fn way_place(d: Direction, i: usize) -> usize
 }
 
 // Follows the labels back from the meeting position m to where they began, writes the positions down from the middle of the way on, toward
-// its front or its back by direction, and tells the last place.
+// its front or its back by direction, and tells the last place. Not a `for`: the next position is read, and how far it goes is known at the end.
 fn trace(
     came: &[u16; 4096],
     d: Direction,
@@ -46,7 +44,7 @@ fn trace(
     let mut i = 0;
     way[4095] = p;
     while p as u32 != end.0 {
-        p = came[wide16(p)];
+        p = came[p as usize];
         i += 1;
         way[way_place(d, i)] = p;
     }
@@ -55,153 +53,109 @@ fn trace(
 
 // Drives the piece between two joined positions, from a to b.
 fn drive_piece(
-    heads: &[u32],
-    costs: &[u32],
-    order: &[u32],
-    first: &[u32],
-    row_heads: &[u32],
-    up: &[u32],
-    down: &[u32],
-    arc_at: &[u16; 4096],
-    arc_next: &[u16; 16384],
-    low: &[u32; 4096],
+    opener: &Opener,
     a: Position,
     b: Position,
     at: usize,
     route: &mut [u32],
-) -> Opened
-    requires { Ready heads.now costs.now order.now (graph first.now row_heads.now) (edge_costs up.now down.now) arc_at.now arc_next.now low.now × T (linked (graph first.now row_heads.now) a.0 b.0) }
-    ensures { (tails : List ℕ) → ByTail tails heads.now arc_at.now arc_next.now → ran result route.new ≡ put (way_along (net tails heads.now costs.now order.now) (graph first.now row_heads.now) (edge_costs up.now down.now) a.0 b.0) at route.old }
+) -> Result<usize, Stuck>
+    requires { IsReady opener.now × T (linked (lent_graph opener.now.graph) a.0 b.0) }
+    ensures { (tails : List ℕ) → ByTail tails opener.now.net.heads.now opener.now.roads.now → ran result route.new ≡ put (way_along (with_tails (lent_net opener.now.net) tails) (lent_graph opener.now.graph) (lent_costs opener.now.costs) a.0 b.0) at route.old }
 {
-    if a.0 < b.0 {
-        let Found::At(k) = find_edge(first, row_heads, a, b) else {
-            return Opened::Misfit;
-        };
-        return open_up(
-            heads, costs, order, first, row_heads, up, down, arc_at, arc_next, low, a, k, at, route,
-        );
-    }
-    let Found::At(k) = find_edge(first, row_heads, b, a) else {
-        return Opened::Misfit;
+    let (d, low, high) = if a < b {
+        (Direction::Up, a, b)
+    } else {
+        (Direction::Down, b, a)
     };
-    open_down(
-        heads, costs, order, first, row_heads, up, down, arc_at, arc_next, low, b, k, at, route,
-    )
+    let Some(k) = find_edge(&opener.graph, low, high) else {
+        return Err(Stuck::Misfit);
+    };
+    opener.open(d, low, k, at, route)
 }
 
-// Drives the way from one place to another, piece by piece: its arcs are written from the start of the route list on.
+// Drives the way from one place to another, piece by piece: its arcs are written from the start of the route list on. The whole way and both
+// places are passed: what was traced speaks of places of the whole, and a part of it would count them anew.
 fn drive_way(
-    tails: &[u32],
-    heads: &[u32],
-    costs: &[u32],
-    order: &[u32],
-    first: &[u32],
-    row_heads: &[u32],
-    up: &[u32],
-    down: &[u32],
+    net: &Net,
+    graph: &Graph,
+    costs: &EdgeCosts,
     way: &[u16; 8192],
     from: usize,
     to: usize,
     route: &mut [u32],
-) -> Opened
-    requires { Given tails.now heads.now costs.now order.now (graph first.now row_heads.now) (edge_costs up.now down.now) × Walkable (graph first.now row_heads.now) way.now from to }
-    ensures { ran result route.new ≡ put (way_over (net tails.now heads.now costs.now order.now) (graph first.now row_heads.now) (edge_costs up.now down.now) (steps way.now from (to - from))) 0 route.old }
+) -> Result<usize, Stuck>
+    requires { Given (lent_net net.now) (lent_graph graph.now) (lent_costs costs.now) × Walkable (lent_graph graph.now) way.now from to }
+    ensures { ran result route.new ≡ put (way_over (lent_net net.now) (lent_graph graph.now) (lent_costs costs.now) (steps way.now from (to - from))) 0 route.old }
 {
-    let mut arc_at = [0u16; 4096];
-    let mut arc_next = [0u16; 16384];
-    thread_tails(tails, &mut arc_at, &mut arc_next);
+    let mut roads = Roads {
+        at: [0; 4096],
+        next: [0; 16384],
+    };
+    roads.thread(net.tails);
     let mut low = [4096u32; 4096];
-    find_lows(first, row_heads, &mut low);
-    let mut i = from;
+    find_lows(graph, &mut low);
+    let opener = Opener {
+        net: *net,
+        graph: *graph,
+        costs: *costs,
+        roads: &roads,
+        low: &low,
+    };
     let mut at = 0;
-    while i < to {
-        let told = drive_piece(
-            heads,
-            costs,
-            order,
-            first,
-            row_heads,
-            up,
-            down,
-            &arc_at,
-            &arc_next,
-            &low,
-            Position(way[i] as u32),
-            Position(way[i + 1] as u32),
-            at,
-            route,
-        );
-        let Opened::Next(free) = told else {
-            return told;
-        };
-        at = free;
-        i += 1;
+    for i in from..to {
+        let a = Position(way[i] as u32);
+        let b = Position(way[i + 1] as u32);
+        at = drive_piece(&opener, a, b, at, route)?;
     }
-    Opened::Next(at)
+    Ok(at)
 }
 
 // What route answers once a way of this distance has been driven: all other places of the route list are filled.
-fn finish(told: Opened, distance: u64, route: &mut [u32]) -> RouteAnswer
-    requires { (k : ℕ) → told ≡ Next k → k ≤ length route.old }
+fn finish(
+    told: Result<usize, Stuck>,
+    distance: u64,
+    route: &mut [u32],
+) -> Result<Option<Drive>, Refusal>
+    requires { (k : ℕ) → told ≡ Ok k → k ≤ length route.old }
     ensures { route_left route.new (route_reply result) ≡ left_after told distance route.old }
 {
     match told {
-        Opened::Next(arcs) => {
+        Ok(arcs) => {
             fill(route, arcs, Cost::CLOSED.0);
-            RouteAnswer::Drive { distance, arcs }
+            Ok(Some(Drive { distance, arcs }))
         }
-        Opened::Full => {
+        Err(stuck) => {
             fill(route, 0, Cost::CLOSED.0);
-            RouteAnswer::Refused(Refusal::RouteRoom)
-        }
-        Opened::Misfit => {
-            fill(route, 0, Cost::CLOSED.0);
-            RouteAnswer::Refused(Refusal::PieceFitsNothing)
+            Err(stuck.into())
         }
     }
 }
 
 // Route over lists and a question that its checks accept: the arcs from one junction to the other in the route list, and what route answers.
-pub fn route_between<'a>(
-    tails: &[u32],
-    heads: &[u32],
-    costs: &[u32],
-    order: &[u32],
+pub fn route_between(
+    net: &Net,
     rank: &[u32],
-    first: &[u32],
-    row_heads: &[u32],
-    up: &'a [u32],
-    down: &'a [u32],
+    graph: &Graph,
+    costs: &EdgeCosts,
     from: Junction,
     to: Junction,
     route: &mut [u32],
-) -> RouteAnswer
-    requires { route_checks (net tails.now heads.now costs.now order.now) rank.now (graph first.now row_heads.now) (edge_costs up.now down.now) from.0 to.0 ≡ passes }
-    ensures { route_left route.new (route_reply result) ≡ route_leaves (net tails.now heads.now costs.now order.now) rank.now (graph first.now row_heads.now) (edge_costs up.now down.now) from.0 to.0 route.old }
+) -> Result<Option<Drive>, Refusal>
+    requires { route_checks (lent_net net.now) rank.now (lent_graph graph.now) (lent_costs costs.now) from.0 to.0 ≡ passes }
+    ensures { route_left route.new (route_reply result) ≡ route_leaves (lent_net net.now) rank.now (lent_graph graph.now) (lent_costs costs.now) from.0 to.0 route.old }
 {
     let s = position_of(rank, from);
     let t = position_of(rank, to);
     let mut came_up = [0u16; 4096];
     let mut came_down = [0u16; 4096];
-    let met = find_meeting(
-        first,
-        row_heads,
-        up,
-        down,
-        s,
-        t,
-        &mut came_up,
-        &mut came_down,
-    );
+    let met = find_meeting(graph, costs, s, t, &mut came_up, &mut came_down);
     if met.sum == NONE {
         fill(route, 0, Cost::CLOSED.0);
-        return RouteAnswer::NoWalk;
+        return Ok(None);
     }
     let mut way = [0u16; 8192];
     let start = trace(&came_up, Direction::Up, s, met.at, &mut way);
     let end = trace(&came_down, Direction::Down, t, met.at, &mut way);
-    let told = drive_way(
-        tails, heads, costs, order, first, row_heads, up, down, &way, start, end, route,
-    );
+    let told = drive_way(net, graph, costs, &way, start, end, route);
     finish(told, met.sum, route)
 }

@@ -17,9 +17,8 @@ use Rattle.text.specs.Program.{text, breaks, reply_lines, noughts, answer, answe
 use Rattle.reader.proofs.ReadAll.{too_long}
 use Rattle.cause.specs.declared.Cause.TheVariants as cause
 use Rattle.cause.specs.Causes.{whole}
-use Rattle.fault.specs.declared.Verdict as Told
-use Rattle.fault.specs.declared.Verdict.TheVariants.{Wrong}
-use Rattle.fault.specs.Faults.{cost_reply, built_reply, net_reply, judged, verdict_read, verdict, Alike, ToldAsAnswered}
+use Rattle.fault.specs.Faults as Told
+use Rattle.fault.specs.Faults.{wrong, cost_reply, built_reply, net_reply, judged, verdict_read, verdict, Alike, ToldAsAnswered}
 
 module _ (input : List ℕ) (N : Net) (froms tos : List ℕ) where
   -- customise takes the costs, or refuses
@@ -66,7 +65,7 @@ unfolding verdict answer answer_read
 told_as_answered input = by (ltb 65536 (length input)) refl
   where
     choice : Bool → Told.Verdict
-    choice long = cond long (Wrong 0 14 (whole cause.TooLong)) (verdict_read input (read_all input))
+    choice long = cond long (wrong 0 14 (whole cause.TooLong)) (verdict_read input (read_all input))
 
     by : (long : Bool) → ltb 65536 (length input) ≡ long → Alike (verdict input) (answer input)
     by true e = subst (λ v. Alike v (answer input)) (sym (ap choice e)) (ap answer_read (sym (too_long input (ltb-true 65536 (length input) e))))

@@ -1,70 +1,57 @@
 -- What build and customise reply to the net of a text, case by case. Assumes nothing.
-use Prim.Native.Nat.{ℕ, ◌≤◌, ◌<◌}
-use mathlib.Core.Path.{◌≡◌, refl, sym, subst}
-use mathlib.Core.List.{List}
-use lib.ListN.{length, take}
-use borrow.Author.Tests.{lt-ltb, le-ltb}
+use Rattle.std.proofs.Common.{ℕ, ◌≤◌, ◌<◌, ◌≡◌, refl, subst, ◌∙◌, List, Result, Ok, Err, length, lt-ltb, le-ltb}
+use Rattle.std.specs.Prelude.{⊤}
 use Rattle.rules.specs.declared.Refusal.{Refusal}
-use Rattle.rules.specs.declared.BuildAnswer.{BuildAnswer}
-use Rattle.rules.specs.declared.BuildAnswer.TheVariants as build
-use Rattle.rules.specs.declared.FillAnswer.{FillAnswer}
-use Rattle.rules.specs.declared.FillAnswer.TheVariants as fill
-use Rattle.rules.specs.Replies.{Reply, refused, edges, done, refusal_number, refusal_place, build_reply, fill_reply}
+use Rattle.rules.specs.Replies.{Reply, refusal_number, refusal_place, build_reply, fill_reply}
 use Rattle.rules.specs.Net.{Net, net}
 use Rattle.rules.specs.Graph.{Graph}
 use Rattle.rules.specs.Calls.{BuildLeaves, build_left}
-use Rattle.text.specs.Program.{read_all}
-use Rattle.reader.specs.declared.Counts.{Counts}
-use Rattle.reader.specs.declared.Reading.{Reading}
-use Rattle.reader.specs.declared.Reading.TheVariants.{Text, Breaks}
-use Rattle.reader.specs.ReadOn.{reading_of}
+use Rattle.text.specs.Program.{Read, text, breaks, read_all}
 use Rattle.cause.specs.declared.Cause.TheVariants as cause
 use Rattle.cause.specs.Causes.{whole}
-use Rattle.fault.specs.declared.Verdict.{Verdict}
-use Rattle.fault.specs.declared.Verdict.TheVariants.{Keeps, Wrong}
-use Rattle.fault.specs.Faults.{place_of, numbered, broken_at, sought_by, refused_at, cost_reply, built_reply, net_reply, judged, verdict_read, verdict}
+use Rattle.fault.specs.Faults.{place_of, numbered, broken_at, sought_by, Verdict, keeps, wrong, refused_at, cost_reply, built_reply, net_reply, judged, verdict_read, verdict}
 
-module _ (N : Net) (b : BuildLeaves) (r : BuildAnswer) (rank : List ℕ) (G : Graph) (f : build_left rank G (build_reply r) ≡ b) where
+module _ (N : Net) (b : BuildLeaves) (rank : List ℕ) (G : Graph) where
   -- build refuses
-  pub build_refused : (q : Refusal) → r ≡ build.Refused q → fill_reply (fill.Refused q) ≡ built_reply N b
+  pub build_refused : (q : Refusal) → build_left rank G (build_reply (Err q)) ≡ b → fill_reply (Err q) ≡ built_reply N b
   unfolding built_reply
-  build_refused q g =
-      let f' : build_left rank G (refused (refusal_number q) (refusal_place q)) ≡ b = rw g at f in
-      subst (λ x. fill_reply (fill.Refused q) ≡ built_reply N x) f' refl
+  build_refused q f = subst (λ x. fill_reply (Err q) ≡ built_reply N x) f refl
 
   -- customise is asked
-  pub build_told : (e : ℕ) (told : Reply) → r ≡ build.Edges e → told ≡ cost_reply N rank G → told ≡ built_reply N b
+  pub build_told : (e : ℕ) (told : Reply) → build_left rank G (build_reply (Ok e)) ≡ b → told ≡ cost_reply N rank G → told ≡ built_reply N b
   unfolding built_reply
-  build_told e told g h =
-      let f' : build_left rank G (edges e) ≡ b = rw g at f in
-      subst (λ x. told ≡ built_reply N x) f' h
+  build_told e told f h = subst (λ x. told ≡ built_reply N x) f h
 
 -- ---- what the text comes to
 
-module _ (input : List ℕ) (r : FillAnswer) (told : Reply) (e : fill_reply r ≡ told) where
-  pub judged_done : r ≡ fill.Done → Keeps ≡ judged input told
-  unfolding judged
-  judged_done g = let e' : done ≡ told = rw g at e in subst (λ x. Keeps ≡ judged input x) e' refl
+-- a net that is taken, or refused at a line
+abbrev pub net_told : (input : List ℕ) → Result ⊤ Refusal → Verdict
+net_told input (Ok t) = keeps
+net_told input (Err q) = refused_at (refusal_number q) (place_of (sought_by (refusal_number q) (refusal_place q)) input)
 
-  pub judged_refused : (q : Refusal) → r ≡ fill.Refused q → refused_at (refusal_number q) (place_of (sought_by (refusal_number q) (refusal_place q)) input) ≡ judged input told
-  unfolding judged
-  judged_refused q g = let e' : refused (refusal_number q) (refusal_place q) ≡ told = rw g at e in subst (λ x. refused_at (refusal_number q) (place_of (sought_by (refusal_number q) (refusal_place q)) input) ≡ judged input x) e' refl
+pub judged_lem : (input : List ℕ) (r : Result ⊤ Refusal) (reply : Reply) → fill_reply r ≡ reply → net_told input r ≡ judged input reply
+unfolding judged
+judged_lem input (Ok t) reply e = subst (λ x. keeps ≡ judged input x) e refl
+judged_lem input (Err q) reply e = subst (λ x. net_told input (Err q) ≡ judged input x) e refl
 
 -- the text is too long
-pub verdict_long : (input : List ℕ) → 65536 < length input → Wrong 0 14 (whole cause.TooLong) ≡ verdict input
+pub verdict_long : (input : List ℕ) → 65536 < length input → wrong 0 14 (whole cause.TooLong) ≡ verdict input
 unfolding verdict
 verdict_long input h = rw (lt-ltb 65536 (length input) h) refl
 
-module _ (input : List ℕ) (r : Reading) (t h k o f g : List ℕ) (short : length input ≤ 65536) (e : reading_of r t h k o f g ≡ read_all input) where
+module _ (input : List ℕ) (short : length input ≤ 65536) where
+  verdict_short : verdict_read input (read_all input) ≡ verdict input
+  unfolding verdict
+  verdict_short = rw (le-ltb 65536 (length input) short) refl
+
   -- it breaks the rules
-  pub verdict_breaks : (line : ℕ) → r ≡ Breaks line → Wrong line 14 (broken_at (numbered line input)) ≡ verdict input
-  unfolding verdict verdict_read
-  verdict_breaks line q = let b : read_all input ≡ reading_of (Breaks line) t h k o f g = rw q at (sym e) in rw (b, le-ltb 65536 (length input) short) refl
+  pub verdict_breaks : (line : ℕ) → breaks line ≡ read_all input → wrong line 14 (broken_at (numbered line input)) ≡ verdict input
+  unfolding verdict_read
+  verdict_breaks line e = subst (λ x. wrong line 14 (broken_at (numbered line input)) ≡ verdict_read input x) e refl ∙ verdict_short
 
   -- it is read
-  pub verdict_read_lem : (c : Counts) (v : Verdict) → r ≡ Text c → length (take c.junctions o) ≡ c.junctions → v ≡ judged input (net_reply (length (take c.junctions o)) (net (take c.arcs t) (take c.arcs h) (take c.arcs k) (take c.junctions o))) → v ≡ verdict input
-  unfolding verdict verdict_read
-  verdict_read_lem c v q n w =
-      let b : read_all input ≡ reading_of (Text c) t h k o f g = rw q at (sym e) in
-      let w' : v ≡ judged input (net_reply c.junctions (net (take c.arcs t) (take c.arcs h) (take c.arcs k) (take c.junctions o))) = subst (λ m. v ≡ judged input (net_reply m (net (take c.arcs t) (take c.arcs h) (take c.arcs k) (take c.junctions o)))) n w in
-      rw (b, le-ltb 65536 (length input) short) w'
+  pub verdict_text : (r : Read) → text r ≡ read_all input → judged input (net_reply r.junctions (net r.tails r.heads r.costs r.order)) ≡ verdict input
+  unfolding verdict_read
+  verdict_text r e =
+      subst (λ x. judged input (net_reply r.junctions (net r.tails r.heads r.costs r.order)) ≡ verdict_read input x) e refl
+      ∙ verdict_short

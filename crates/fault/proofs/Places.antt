@@ -1,26 +1,15 @@
 -- The line that is looked for, as the search meets it. Assumes nothing.
-use Prim.Native.Nat.{ℕ, ◌+◌, ◌-◌, ◌≤◌, ◌<◌}
-use mathlib.Core.Path.{◌≡◌, refl, sym, ◌∙◌, subst}
-use mathlib.Core.Bool.{true, false}
-use mathlib.Core.List.{List}
-use native.Mathlib.Omega.{arith}
-use native.Mathlib.Numerals.{add-one}
-use lib.ListN.{length, drop}
-use lib.Seq.{slice, length-slice}
-use borrow.Author.Tests.{lt-ltb, le-ltb, eq-eqb, ne_eqb}
+use Rattle.std.proofs.Common.{ℕ, suc, ◌+◌, ◌≤◌, ◌≡◌, refl, ap, Bool, true, false, List, [], ◌∷◌, Option, Some, None, Bor, length, eqb, arith, add-one}
 use Rattle.text.specs.Bytes.{lf, cut_at, words}
 use Rattle.text.specs.Program.{Line, comment, problem, arc, seat, question, other, line_of}
-use Rattle.text.specs.ReadBack.{PartEnd}
+use Rattle.std.specs.Option.{is_some}
+use Rattle.text.specs.declared.Parts.{Parts}
+use Rattle.text.specs.ReadBack.{parts_left}
 use Rattle.text.proofs.LineOf.{some_part}
-use Rattle.reader.specs.declared.State.{State}
-use Rattle.reader.specs.ReadOn.{nothing_yet}
-use Rattle.reader.proofs.ReadAll.{part_ended, part_last}
+use Rattle.reader.specs.declared.lists.State.{State}
+use Rattle.reader.specs.State.{nothing_yet}
 use Rattle.fault.specs.declared.Sought.{Sought}
-use Rattle.fault.specs.declared.Spot.{Spot}
-use Rattle.cause.specs.declared.Cause.TheVariants as cause
-use Rattle.cause.specs.Causes.{whole, line_fault, end_fault}
-use Rattle.fault.specs.declared.Verdict.TheVariants.{Wrong}
-use Rattle.fault.specs.Faults.{counted, Few, is_sought, Place, seek, place_of, Found, broken_at, net_fault, refused_at}
+use Rattle.fault.specs.Faults.{counted, Few, is_sought, place, seek, place_of}
 
 -- few are fewer than more
 pub few_within : (s : State) (least most : ℕ) → least ≤ most → Few s least → Few s most
@@ -35,83 +24,74 @@ few_more s (seat j) most f = record { arcs_few = omega (arith, f.arcs_few); seat
 few_more s (question u v) most f = record { arcs_few = omega (arith, f.arcs_few); seats_few = omega (arith, f.seats_few); questions_few = omega (arith, f.questions_few) }
 few_more s other most f = few_within s most (most + 1) (omega arith) f
 
--- the lines before the one at `at` have been passed by, and say s
-pub record Walks (l : List ℕ) (what : Sought) (s : State) (line at end : ℕ) : Type 0 where
-  pub part : PartEnd l at (length l) lf end
-  pub counts : line ≤ at + 1
-  pub few : Few s line
-  pub says : seek what s line (cut_at lf (drop at l)) ≡ place_of what l
+-- there are no more parts than bytes, but for one
+few_parts : (mark : ℕ) (l : List ℕ) → length (cut_at mark l) ≤ length l + 1
+unfolding cut_at
+few_parts mark [] = omega arith
+few_parts mark (x ∷ l) = by (some_part mark l) (eqb x mark) refl (few_parts mark l)
+  where
+    by : (p : List ℕ) × (ps : List (List ℕ)) × (cut_at mark l ≡ p ∷ ps) → (b : Bool) → eqb x mark ≡ b → length (cut_at mark l) ≤ length l + 1 → length (cut_at mark (x ∷ l)) ≤ length (x ∷ l) + 1
+    by r true e h = rw e (omega arith)
+    by (p, ps, f) false e h = let n : suc (length ps) ≤ length l + 1 = rw f at h in rw (e, f) (omega arith)
+
+-- the lines before those that are left have been passed by, and say s
+pub record Walks (l : List ℕ) (what : Sought) (s : State) (number : ℕ) (left : List (List ℕ)) : Type 0 where
+  pub few : Few s number
+  pub counts : number + length left ≤ length l + 2
+  pub says : seek what s number left ≡ place_of what l
 
 -- before the first line
-pub walks_none : (l : List ℕ) (what : Sought) (end : ℕ) → PartEnd l 0 (length l) lf end → Walks l what nothing_yet 1 0 end
+pub walks_none : (l : List ℕ) (what : Sought) (left : List (List ℕ)) → left ≡ cut_at lf l → Walks l what nothing_yet 1 left
 unfolding place_of
-walks_none l what end p = record {
-  part = p;
-  counts = omega arith;
+walks_none l what left e = record {
   few = record { arcs_few = omega arith; seats_few = omega arith; questions_few = omega arith };
-  says = refl;
+  counts = omega (arith, few_parts lf l, ap length e);
+  says = rw e refl;
 }
 
-module _ (l : List ℕ) (what : Sought) (s : State) (line at end : ℕ) (w : Walks l what s line at end) where
-  abbrev here : Line
-  here = line_of (words (slice at end l))
+-- no part is left, or some are
+no_parts : (p : Parts) → is_some p.rest ≡ false → parts_left p ≡ []
+no_parts p e = by p.rest refl e
+  where
+    by : (r : Option (Bor (List ℕ))) → p.rest ≡ r → is_some r ≡ false → parts_left p ≡ []
+    by (Some x) q f = cc
+    by None q f = rw q refl
+
+some_parts : (p : Parts) → is_some p.rest ≡ true → (next : List ℕ) × (rest : List (List ℕ)) × (parts_left p ≡ next ∷ rest)
+some_parts p e = by p.rest refl e
+  where
+    by : (r : Option (Bor (List ℕ))) → p.rest ≡ r → is_some r ≡ true → (next : List ℕ) × (rest : List (List ℕ)) × (parts_left p ≡ next ∷ rest)
+    by (Some x) q f = let (n, ns, g) = some_part p.mark x.now in (n, ns, rw q g)
+    by None q f = cc
+
+module _ (l : List ℕ) (what : Sought) (s : State) (number : ℕ) (left : List (List ℕ)) (w : Walks l what s number left) (bytes : List ℕ) (p : Parts) (q : left ≡ bytes ∷ parts_left p) where
+  -- the line that comes next is the last, without LF
+  pub walks_last : is_some p.rest ≡ false → place number bytes false s ≡ place_of what l
+  unfolding seek
+  walks_last e = rw (q, no_parts p e) at w.says
 
   -- it is the one
-  pub walks_found : end < length l → is_sought what s line here ≡ true → Found l (record { line = line; at = at; end = end; before = s }) (place_of what l)
+  pub walks_found : is_some p.rest ≡ true → is_sought what s number (line_of (words bytes)) ≡ true → place number bytes true s ≡ place_of what l
   unfolding seek
-  walks_found h e = record {
-    low = w.part.low;
-    high = w.part.high;
-    says =
-        let (x, xs, q) = some_part lf (drop (end + 1) l) in
-        rw (lt-ltb end (length l) h) (sym (rw (part_ended l at end w.part h, q, e) refl) ∙ w.says);
-  }
-
-  -- it is what stands behind the last LF
-  pub walks_ended : length l ≤ end → Found l (record { line = line; at = at; end = end; before = s }) (place_of what l)
-  unfolding seek
-  walks_ended h = record {
-    low = w.part.low;
-    high = w.part.high;
-    says = rw (le-ltb end (length l) h) (sym (rw (part_last l at end w.part (omega (arith, w.part.high))) refl) ∙ w.says);
-  }
+  walks_found e f = let (n, ns, g) = some_parts p e in rw (q, g, f) at w.says
 
   -- it is another
-  pub walks_on : end < length l → is_sought what s line here ≡ false → (next : ℕ) → PartEnd l (end + 1) (length l) lf next → Walks l what (counted s here) (line + 1) (end + 1) next
+  pub walks_few : is_some p.rest ≡ true → length l ≤ 65536 → Few s 65536
+  walks_few e h =
+      let (n, ns, g) = some_parts p e in
+      few_within s number 65536 (omega (arith, w.counts, ap length q, ap length g)) w.few
+
+  pub walks_on : is_some p.rest ≡ true → is_sought what s number (line_of (words bytes)) ≡ false → Walks l what (counted s (line_of (words bytes))) (number + 1) (parts_left p)
   unfolding seek
-  walks_on h e next p = record {
-    part = p;
-    counts = omega (arith, w.counts, w.part.low);
-    few = few_more s here line w.few;
-    says =
-        let (x, xs, q) = some_part lf (drop (end + 1) l) in
-        rw add-one (rw q (sym (rw (part_ended l at end w.part h, q, e) refl) ∙ w.says));
-  }
+  walks_on e f =
+      let (n, ns, g) = some_parts p e in
+      record {
+        few = few_more s (line_of (words bytes)) number w.few;
+        counts = omega (arith, w.counts, ap length q);
+        says = rw (g, add-one) (rw (q, g, f) at w.says);
+      }
 
--- ---- why the line is refused
-
-module _ (l : List ℕ) (spot : Spot) (there : Place) (f : Found l spot there) where
-  -- it ends with LF
-  pub broken_line : spot.end < length l → line_fault spot.before (slice spot.at spot.end l) ≡ broken_at there
-  unfolding broken_at
-  broken_line h = subst (λ x. line_fault spot.before (slice spot.at spot.end l) ≡ broken_at x) f.says (rw (lt-ltb spot.end (length l) h) refl)
-
-  long : length (slice spot.at spot.end l) ≡ spot.end - spot.at
-  long = length-slice spot.at spot.end l f.high
-
-  -- the text has ended
-  pub broken_end : length l ≤ spot.end → spot.at ≡ spot.end → end_fault spot.before ≡ broken_at there
-  unfolding broken_at
-  broken_end h e = subst (λ x. end_fault spot.before ≡ broken_at x) f.says (rw (le-ltb spot.end (length l) h, long, eq-eqb (spot.end - spot.at) 0 (omega arith)) refl)
-
-  -- the last line has no LF
-  pub broken_unended : length l ≤ spot.end → (spot.at ≡ spot.end → ⊥) → whole cause.Unended ≡ broken_at there
-  unfolding broken_at
-  broken_unended h n = subst (λ x. whole cause.Unended ≡ broken_at x) f.says (rw (le-ltb spot.end (length l) h, long, ne_eqb (spot.end - spot.at) 0 (λ q. n (omega (arith, f.low)))) refl)
-
-  -- build or customise refuses
-  pub refused_line : (number : ℕ) (line : Line) → spot.end < length l → line ≡ line_of (words (slice spot.at spot.end l)) → Wrong spot.line number (net_fault number spot.before.junctions line) ≡ refused_at number there
-  refused_line number line h e = subst (λ x. Wrong spot.line number (net_fault number spot.before.junctions line) ≡ refused_at number x) f.says (rw (e, lt-ltb spot.end (length l) h) refl)
-
-  pub refused_end : (number : ℕ) → length l ≤ spot.end → Wrong spot.line number (net_fault number spot.before.junctions other) ≡ refused_at number there
-  refused_end number h = subst (λ x. Wrong spot.line number (net_fault number spot.before.junctions other) ≡ refused_at number x) f.says (rw (le-ltb spot.end (length l) h) refl)
+-- no line is left
+pub walks_ended : (l : List ℕ) (what : Sought) (s : State) (number : ℕ) (left : List (List ℕ)) → Walks l what s number left → left ≡ [] → place number [] false s ≡ place_of what l
+unfolding seek
+walks_ended l what s number left w q = rw q at w.says

@@ -1,7 +1,6 @@
 -- Where a text is refused, by which number and why, as docs/FORMAT.md tells it. Assumes nothing.
-use Rattle.std.specs.Prelude.{ℕ, suc, ◌≤◌, ◌≡◌, Bool, true, false, cond, ◌&&◌, List, [], ◌∷◌, ◌++◌, eqb, ltb, length}
-use Rattle.std.proofs.Math.Seq.{slice}
-use Rattle.rules.specs.Replies.{Reply, refused, edges, done, far, drive, no_walk, looked}
+use Rattle.std.specs.Prelude.{ℕ, suc, ◌≤◌, ◌≡◌, ⊤, Bool, true, false, cond, List, [], ◌∷◌, ◌++◌, Some, Result, Ok, Err, eqb, ltb, length}
+use Rattle.rules.specs.Replies.{refusal_number, Reply, refused, edges, done, far, drive, no_walk, looked}
 use Rattle.rules.specs.Net.{Net, net}
 use Rattle.rules.specs.Graph.{Graph, graph}
 use Rattle.rules.specs.Hierarchy.{edge_costs}
@@ -9,8 +8,8 @@ use Rattle.rules.specs.Calls.{BuildLeaves, build_leaves, customise_leaves}
 use Rattle.text.specs.Bytes.{lf, cut_at, words}
 use Rattle.text.specs.Program
 use Rattle.text.specs.Program.{Line, comment, problem, arc, seat, question, other, line_of, text, breaks, read_all, edges_line, refused_line, noughts, answer}
-use Rattle.reader.specs.declared.State.{State}
-use Rattle.reader.specs.ReadOn.{nothing_yet}
+use Rattle.reader.specs.declared.lists.State.{State}
+use Rattle.reader.specs.State.{nothing_yet, junctions_told}
 use Rattle.cause.specs.declared.Cause.{Cause}
 use Rattle.cause.specs.declared.Cause.TheVariants as cause
 use Rattle.cause.specs.declared.Fault.{Fault}
@@ -18,8 +17,7 @@ use Rattle.cause.specs.Causes.{at, whole, line_fault, end_fault}
 use Rattle.fault.specs.declared.Sought.{Sought}
 use Rattle.fault.specs.declared.Sought.TheVariants as sought
 use Rattle.fault.specs.declared.Spot.{Spot}
-use Rattle.fault.specs.declared.Verdict.{Verdict}
-use Rattle.fault.specs.declared.Verdict.TheVariants.{Keeps, Wrong}
+use Rattle.fault.specs.declared.Wrong.{Wrong}
 
 -- ---- the lines before one
 
@@ -27,34 +25,15 @@ use Rattle.fault.specs.declared.Verdict.TheVariants.{Keeps, Wrong}
 abbrev pub counted : State → Line → State
 counted s comment = s
 counted s (problem n m) =
-    record { started = true; junctions = n; arcs = m; listed = s.listed; seated = s.seated; asked = s.asked }
-counted s (arc t h c) =
     record {
-      started = s.started;
-      junctions = s.junctions;
-      arcs = s.arcs;
-      listed = suc s.listed;
+      sizes = Some (record { junctions = n; arcs = m });
+      listed = s.listed;
       seated = s.seated;
       asked = s.asked;
     }
-counted s (seat j) =
-    record {
-      started = s.started;
-      junctions = s.junctions;
-      arcs = s.arcs;
-      listed = s.listed;
-      seated = suc s.seated;
-      asked = s.asked;
-    }
-counted s (question u v) =
-    record {
-      started = s.started;
-      junctions = s.junctions;
-      arcs = s.arcs;
-      listed = s.listed;
-      seated = s.seated;
-      asked = suc s.asked;
-    }
+counted s (arc t h c) = record { sizes = s.sizes; listed = suc s.listed; seated = s.seated; asked = s.asked }
+counted s (seat j) = record { sizes = s.sizes; listed = s.listed; seated = suc s.seated; asked = s.asked }
+counted s (question u v) = record { sizes = s.sizes; listed = s.listed; seated = s.seated; asked = suc s.asked }
 counted s other = s
 
 -- so few lines of each form that they can be counted
@@ -65,21 +44,13 @@ pub record Few (s : State) (most : ℕ) : Type 0 where
 
 -- ---- the line that is looked for
 
--- the letter of a line that keeps its form, 0 for any other line
-abbrev pub letter_of : Line → ℕ
-letter_of comment = 99
-letter_of (problem n m) = 112
-letter_of (arc t h c) = 97
-letter_of (seat j) = 111
-letter_of (question u v) = 113
-letter_of other = 0
-
 -- the line of a number; that of `p`; that of the arc, or of the order entry, before which there are k
 abbrev pub is_sought : Sought → (before : State) (number : ℕ) → Line → Bool
 is_sought (sought.Line k) s number line = eqb number k
-is_sought sought.Problem s number line = eqb (letter_of line) 112
-is_sought (sought.Arc k) s number line = eqb (letter_of line) 97 && eqb s.listed k
-is_sought (sought.Seat k) s number line = eqb (letter_of line) 111 && eqb s.seated k
+is_sought sought.Problem s number (problem n m) = true
+is_sought (sought.Arc k) s number (arc t h c) = eqb s.listed k
+is_sought (sought.Seat k) s number (seat j) = eqb s.seated k
+is_sought what s number line = false
 
 -- a line: its number, its text, whether LF ends it, and what the lines before it say
 pub record Place : Type 0 where
@@ -108,14 +79,9 @@ place_of what input = seek what nothing_yet 1 (cut_at lf input)
 abbrev pub numbered : (number : ℕ) (input : List ℕ) → Place
 numbered number input = place_of (sought.Line number) input
 
--- a place, by where its line begins and ends
-abbrev pub place_back : (input : List ℕ) → Spot → Place
-place_back input spot = place spot.line (slice spot.at spot.end input) (ltb spot.end (length input)) spot.before
-
-pub record Found (input : List ℕ) (spot : Spot) (there : Place) : Type 0 where
-  pub low : spot.at ≤ spot.end
-  pub high : spot.end ≤ length input
-  pub says : place_back input spot ≡ there
+-- a place as the code has it
+abbrev pub place_back : Spot → Place
+place_back spot = place spot.number spot.bytes.now spot.ended spot.before
 
 -- ---- why
 
@@ -164,8 +130,18 @@ net_fault number n line =
 abbrev pub line_there : Place → Line
 line_there there = cond there.ended (line_of (words there.bytes)) other
 
+-- what is wrong with a text: nothing, or a line, the refusal's number and the cause
+pub data Verdict : Type 0 where
+  keeps : Verdict
+  wrong : (line number : ℕ) (fault : Fault) → Verdict
+
+-- a verdict as the code has it
+abbrev pub told : Result ⊤ Wrong → Verdict
+told (Ok t) = keeps
+told (Err w) = wrong w.line (refusal_number w.refusal) w.fault
+
 abbrev pub refused_at : (number : ℕ) → Place → Verdict
-refused_at number there = Wrong there.number number (net_fault number there.before.junctions (line_there there))
+refused_at number there = wrong there.number number (net_fault number (junctions_told there.before.sizes) (line_there there))
 
 -- ---- the net
 
@@ -199,30 +175,30 @@ net_reply n N =
 unfoldable pub judged : (input : List ℕ) → Reply → Verdict
 unfolding place_of
 judged input (refused number p) = refused_at number (place_of (sought_by number p) input)
-judged input (edges e) = Keeps
-judged input done = Keeps
-judged input (far d) = Keeps
-judged input (drive d k) = Keeps
-judged input no_walk = Keeps
-judged input (looked t) = Keeps
+judged input (edges e) = keeps
+judged input done = keeps
+judged input (far d) = keeps
+judged input (drive d k) = keeps
+judged input no_walk = keeps
+judged input (looked t) = keeps
 
 -- 14 where reading breaks off, else what build or customise refuses, else nothing
 unfoldable pub verdict_read : (input : List ℕ) → Program.Reading → Verdict
 unfolding broken_at place_of judged net_reply
-verdict_read input (breaks line) = Wrong line 14 (broken_at (numbered line input))
+verdict_read input (breaks line) = wrong line 14 (broken_at (numbered line input))
 verdict_read input (text r) = judged input (net_reply r.junctions (net r.tails r.heads r.costs r.order))
 
 -- too long a text is refused at line 0
 unfoldable pub verdict : (input : List ℕ) → Verdict
 unfolding read_all verdict_read
-verdict input = cond (ltb 65536 (length input)) (Wrong 0 14 (whole cause.TooLong)) (verdict_read input (read_all input))
+verdict input = cond (ltb 65536 (length input)) (wrong 0 14 (whole cause.TooLong)) (verdict_read input (read_all input))
 
 -- ---- the two programs
 
 -- what is told of a text, beside what `route` answers: `refused N` with the same number, or the number of edges first
 abbrev pub Alike : Verdict → (answer : List ℕ) → Type 0
-Alike Keeps answer = (e : ℕ) × (rest : List ℕ) × (answer ≡ edges_line e ++ rest)
-Alike (Wrong line number fault) answer = answer ≡ refused_line number
+Alike keeps answer = (e : ℕ) × (rest : List ℕ) × (answer ≡ edges_line e ++ rest)
+Alike (wrong line number fault) answer = answer ≡ refused_line number
 
 abbrev pub ToldAsAnswered : Type 0
 ToldAsAnswered = (input : List ℕ) → Alike (verdict input) (answer input)

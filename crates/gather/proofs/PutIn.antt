@@ -29,7 +29,7 @@ module _ (a : List ℕ) (x y z : ℕ) (long : length a ≡ 4096) (low : x < y) (
   at_other w d f = get_or-set_other (set a y z) x w y 0 d ∙ get_or-set_other a y w z 0 f
 
   -- they keep every place pointing upward
-  put_rises : Rises a → y < z → Rises (set (set a y z) x y)
+  pub put_rises : Rises a → y < z → Rises (set (set a y z) x y)
   put_rises u high =
       record {
         long = length-set (set a y z) x y ∙ length-set a y z ∙ long;
@@ -162,8 +162,8 @@ pub reached_start : (x y z : ℕ) (a : List ℕ) → x < y → z ≡ get_or a x 
 reached_start x y z a l e = record { low = l; next = e; reach = λ S n p h m w. w }
 
 -- it goes on where what stands behind is still below y
-pub reached_more : (from y : ℕ) (a : List ℕ) (x z : ℕ) → Reached from y a x z → z < y → Reached from y a z (get_or a z 0)
-reached_more from y a x z r l =
+pub reached_more : {from y : ℕ} {a : List ℕ} {x z : ℕ} → Reached from y a x z → z < y → Reached from y a z (get_or a z 0)
+reached_more {from} {y} {a} {x} {z} r l =
     record {
       low = l;
       next = refl;
@@ -173,10 +173,9 @@ reached_more from y a x z r l =
     }
 
 -- it ends where y stands already
-pub put_there : (from y : ℕ) (a : List ℕ) (x z : ℕ) → Rises a → Reached from y a x z → z ≡ y → PutIn from y a a
-put_there from y a x z u r e =
+pub put_there : {from y : ℕ} {a : List ℕ} {x z : ℕ} → Reached from y a x z → z ≡ y → PutIn from y a a
+put_there {from} {y} {a} {x} {z} r e =
     record {
-      rises = u;
       holds = λ S n p h few m w.
           let b = h.next x (r.reach S n p h m w) in
           let f : get_or a x 0 ≡ y = sym r.next ∙ e in
@@ -185,12 +184,11 @@ put_there from y a x z u r e =
     }
 
 -- or where y belongs between x and what stands behind it, which then stands behind y
-pub put_between : (from y : ℕ) (a : List ℕ) (x z : ℕ) → Rises a → y < 4096 → Reached from y a x z → y < z
+pub put_between : {from y : ℕ} {a : List ℕ} {x z : ℕ} → Rises a → y < 4096 → Reached from y a x z → y < z
     → PutIn from y a (set (set a y z) x y) × (get_or (set (set a y z) x y) y 0 ≡ z)
-put_between from y a x z u fits r high = (
+put_between {from} {y} {a} {x} {z} u fits r high = (
   rw r.next
       (record {
-        rises = put_rises a x y (get_or a x 0) u.long r.low fits u (omega (arith, r.next));
         holds = λ S n p h few m w. put_holds S n p x y a h u.long few m (r.reach S n p h m w) r.low (omega (arith, r.next));
       }),
   at_y a x y z u.long r.low fits,

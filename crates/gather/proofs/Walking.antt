@@ -9,32 +9,30 @@ use lib.ListN.{get_or}
 use borrow.Author.Tests.{eqb-true}
 use Rattle.theory.specs.Threads.{last_below, Threaded, downward}
 use Rattle.theory.proofs.Threads.{last_within, last_stands, last_passes, thread_on, down_none, down_skip, down_step}
-use Rattle.gather.specs.NextMembers.{Holds, Rises}
+use Rattle.gather.specs.NextMembers.{Holds}
 
 -- of the numbers below m that pass, those from k on have had their step; k is one more than the next, or 0
 pub record Walking (f : ℕ → Bool) (step : ℕ → (ℕ → Bool) → ℕ → Bool) (n p m k : ℕ) (before after : List ℕ) : Type 0 where
   pub within : k ≤ m
   pub stands : last_below f k ≡ k
-  pub rises : Rises after
   pub holds : (S : ℕ → Bool) → Holds S n p before
       → (R : ℕ → Bool) × Holds R n p after × (downward f step m S ≡ downward f step k R)
 
-module _ (f : ℕ → Bool) (step : ℕ → (ℕ → Bool) → ℕ → Bool) (n p m : ℕ) where
+module _ {f : ℕ → Bool} {step : ℕ → (ℕ → Bool) → ℕ → Bool} {n p m : ℕ} where
   -- the walk starts at the last
-  pub walking_start : (k : ℕ) (a : List ℕ) → Rises a → k ≡ last_below f m → Walking f step n p m k a a
-  walking_start k a u e =
+  pub walking_start : {k : ℕ} {a : List ℕ} → k ≡ last_below f m → Walking f step n p m k a a
+  walking_start e =
       rw e
-      (record { within = last_within f m; stands = last_stands f m; rises = u; holds = λ S h. (S, h, down_skip f step m S) })
+      (record { within = last_within f m; stands = last_stands f m; holds = λ S h. (S, h, down_skip f step m S) })
 
-  module _ (k : ℕ) (a₀ a : List ℕ) (w : Walking f step n p m k a₀ a) where
+  module _ {k : ℕ} {a₀ a : List ℕ} (w : Walking f step n p m k a₀ a) where
     -- it goes on to the one before
-    walking_more : (i k' : ℕ) (b : List ℕ) → k ≡ suc i → k' ≡ last_below f i → Rises b → ((R : ℕ → Bool) → Holds R n p a → Holds (step i R) n p b) → Walking f step n p m k' a₀ b
-    walking_more i k' b e g u put =
+    walking_more : (i k' : ℕ) (b : List ℕ) → k ≡ suc i → k' ≡ last_below f i → ((R : ℕ → Bool) → Holds R n p a → Holds (step i R) n p b) → Walking f step n p m k' a₀ b
+    walking_more i k' b e g put =
         rw g
         (record {
           within = omega (arith, last_within f i, w.within);
           stands = last_stands f i;
-          rises = u;
           holds = λ S h.
               let (R, r, d) = w.holds S h in
               let s : last_below f (suc i) ≡ suc i = subst (λ j. last_below f j ≡ j) e w.stands in
@@ -50,7 +48,7 @@ module _ (f : ℕ → Bool) (step : ℕ → (ℕ → Bool) → ℕ → Bool) (n 
 
 -- ---- the walk along the thread of part p
 
-module _ (f : ℕ → ℕ) (parts room : ℕ) (at next : List ℕ) (step : ℕ → (ℕ → Bool) → ℕ → Bool) (n p m k : ℕ) (a₀ a : List ℕ)
+module _ {f : ℕ → ℕ} {parts room : ℕ} {at next : List ℕ} {step : ℕ → (ℕ → Bool) → ℕ → Bool} {n p m k : ℕ} {a₀ a : List ℕ}
     (t : Threaded f parts room m at next) (inside : p < parts) (w : Walking (λ j. eqb (f j) p) step n p m k a₀ a) (more : 0 < k) where
   -- the walk stands at a number that passes
   stands_here : last_below (λ j. eqb (f j) p) (suc (k - 1)) ≡ suc (k - 1)
@@ -71,5 +69,5 @@ module _ (f : ℕ → ℕ) (parts room : ℕ) (at next : List ℕ) (step : ℕ �
   next_falls = omega (arith, next_is, last_within (λ j. eqb (f j) p) (k - 1))
 
   -- once that number has had its step, the thread leads on
-  pub walking_on : (k' : ℕ) (b : List ℕ) → k' ≡ get_or next (k - 1) 0 → Rises b → ((R : ℕ → Bool) → Holds R n p a → Holds (step (k - 1) R) n p b) → Walking (λ j. eqb (f j) p) step n p m k' a₀ b
-  walking_on k' b g u put = walking_more (λ j. eqb (f j) p) step n p m k a₀ a w (k - 1) k' b (omega arith) (g ∙ next_is) u put
+  pub walking_on : (k' : ℕ) (b : List ℕ) → k' ≡ get_or next (k - 1) 0 → ((R : ℕ → Bool) → Holds R n p a → Holds (step (k - 1) R) n p b) → Walking (λ j. eqb (f j) p) step n p m k' a₀ b
+  walking_on k' b g put = walking_more w (k - 1) k' b (omega arith) (g ∙ next_is) put

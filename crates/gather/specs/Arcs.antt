@@ -1,7 +1,8 @@
 -- The arcs by the positions of their ends, and what those of one position bring into its row. Assumes nothing.
-use Rattle.std.specs.Prelude.{ℕ, ◌≤◌, ◌<◌, min, max, ◌≡◌, Bool, cond, List, eqb, ltb, length, get_or}
+use Rattle.std.specs.Prelude.{ℕ, ◌≤◌, ◌<◌, min, max, ◌≡◌, Bool, cond, List, eqb, ltb, length, get_or, replicate}
 use Rattle.theory.specs.Threads.{Threaded, downward}
 use Rattle.gather.specs.declared.Ends.{Ends}
+use Rattle.gather.specs.declared.ArcThreads.{ArcThreads}
 use Rattle.gather.specs.NextMembers.{also}
 
 -- how many arcs there are, and the lower and the higher of the positions of each arc's ends
@@ -41,12 +42,15 @@ pub record ArcLists (tails heads rank : List ℕ) (n : ℕ) : Type 0 where
   pub ends_in : (i : ℕ) → i < length tails → (get_or tails i 0 < n) × (get_or heads i 0 < n)
   pub positions : (j : ℕ) → j < n → get_or rank j 0 < n
 
+-- no arc is threaded yet
+abbrev pub NoArcs : {N : ℕ} (t : ArcThreads N) → Type 0
+NoArcs {N} t = (t.at ≡ replicate 4096 0) × (length t.next ≡ N) × (length t.high ≡ N)
+
 -- the arcs are threaded by their lower ends, and their higher ends, all below n, are kept
-pub record ArcThreads (R : Arcs) (n : ℕ) (at next high : List ℕ) : Type 0 where
-  pub threads : Threaded R.low 4096 (length next) R.count at next
-  pub next_room : R.count ≤ length next
-  pub high_room : R.count ≤ length high
-  pub kept : (i : ℕ) → i < R.count → get_or high i 0 ≡ R.high i
+pub record ThreadsOf {N : ℕ} (R : Arcs) (n : ℕ) (t : ArcThreads N) : Type 0 where
+  pub threads : Threaded R.low 4096 N R.count t.at t.next
+  pub fit : R.count ≤ N
+  pub kept : (i : ℕ) → i < R.count → get_or t.high i 0 ≡ R.high i
   pub below : (i : ℕ) → i < R.count → R.high i < n
 
 -- the set of p with the higher end of arc i put in, if that lies above p: an arc from a junction to itself brings nothing

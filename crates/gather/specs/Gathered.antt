@@ -1,10 +1,12 @@
 -- The row of one position, brought together from its arcs and from the rows of its children. Assumes nothing.
-use Rattle.std.specs.Prelude.{ℕ, suc, ◌≤◌, ◌<◌, ◌≡◌, Bool, List, T, eqb, length, get_or, drop}
+use Rattle.std.specs.Prelude.{ℕ, suc, ◌≤◌, ◌<◌, ◌≡◌, Bool, T, eqb, length, get_or, drop}
 use Rattle.rules.specs.Graph.{Graph}
 use Rattle.rules.specs.Hierarchy.{row_at, row_ascends}
 use Rattle.theory.specs.Threads.{Threaded, downward}
 use Rattle.gather.specs.NextMembers.{nobody, also_all}
-use Rattle.gather.specs.Arcs.{Arcs, ArcThreads, with_arcs}
+use Rattle.gather.specs.declared.ArcThreads.{ArcThreads}
+use Rattle.gather.specs.declared.ChildThreads.{ChildThreads}
+use Rattle.gather.specs.Arcs.{Arcs, ThreadsOf, with_arcs}
 
 -- the parent of c as the lists have it, the lowest entry of its row; n if the row is empty
 abbrev pub parent_in : (G : Graph) (n c : ℕ) → ℕ
@@ -22,11 +24,11 @@ pub record RowsIn (G : Graph) (n p : ℕ) : Type 0 where
   pub ascend : (c : ℕ) → c < p → T (row_ascends n G c)
 
 -- the arcs and the rows below p from which the row of p is brought together
-pub record Gatherable (R : Arcs) (G : Graph) (arc_at arc_next arc_high child_at child_next : List ℕ) (n p : ℕ) : Type 0 where
+pub record Gatherable {N : ℕ} (R : Arcs) (G : Graph) (arcs : ArcThreads N) (children : ChildThreads) (n p : ℕ) : Type 0 where
   pub inside : p < n
-  pub arcs : ArcThreads R n arc_at arc_next arc_high
+  pub arcs_threaded : ThreadsOf R n arcs
   pub rows : RowsIn G n p
-  pub child_threads : Threaded (parent_in G n) n 4096 p child_at child_next
+  pub children_threaded : Threaded (parent_in G n) n 4096 p children.at children.next
 
 -- what they bring
 abbrev pub gathered : (R : Arcs) (G : Graph) (n p : ℕ) → ℕ → Bool

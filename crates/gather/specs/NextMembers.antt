@@ -1,6 +1,5 @@
 -- A set of positions above one position p and below n, and the array that holds it by next members. Assumes nothing.
 use Rattle.std.specs.Prelude.{ℕ, suc, ◌-◌, ◌≤◌, ◌<◌, ◌≡◌, ◌⊎◌, Bool, false, ◌||◌, List, [], ◌∷◌, T, eqb, length, get_or}
-use Rattle.std.proofs.Math.Seq.{slice}
 use Rattle.rules.specs.Words.{those}
 use Rattle.rules.specs.Hierarchy.{ascends}
 
@@ -41,18 +40,14 @@ pub record Rises (after : List ℕ) : Type 0 where
 
 -- y was put in, from a place that is p or a member: whatever set the array held before, it now holds that set with y
 pub record PutIn (from y : ℕ) (before after : List ℕ) : Type 0 where
-  pub rises : Rises after
   pub holds : (S : ℕ → Bool) (n p : ℕ) → Holds S n p before → n ≤ 4096 → y < n → (from ≡ p) ⊎ T (S from) → Holds (also S y) n p after
 
 -- the entries of a list were put in, from a place that is p or a member: whatever set the array held before, it now holds that set with them
 pub record AllPutIn (entries : List ℕ) (n from : ℕ) (before after : List ℕ) : Type 0 where
-  pub rises : Rises after
   pub holds : (S : ℕ → Bool) (p : ℕ) → Holds S n p before → (from ≡ p) ⊎ T (S from) → Holds (also_all entries S) n p after
 
--- the entries of the rows from place `from` up to `to` ascend, above p and below n: they can be put into the set of p
-pub record AscendingPart (heads : List ℕ) (from to n p : ℕ) : Type 0 where
-  pub order : from ≤ to
-  pub within : to ≤ length heads
+-- the entries ascend, above p and below n: they can be put into the set of p
+pub record AscendingPart (entries : List ℕ) (n p : ℕ) : Type 0 where
   pub few : n ≤ 4096
   pub inside : p < n
-  pub ascend : T (ascends (suc p) n (slice from to heads))
+  pub ascend : T (ascends (suc p) n entries)

@@ -6,7 +6,7 @@ use mathlib.Core.Bool.{Bool}
 use mathlib.Core.List.{List, ◌++◌}
 use native.Mathlib.Omega.{arith}
 use native.Mathlib.Numerals.{add-one}
-use lib.ListN.{length, get_or, take, drop, set, replicate, length-set, get_or-replicate}
+use lib.ListN.{length, get_or, take, drop, set, length-set}
 use lib.Seq.{take-take, length-take-le, get_or-set_same, get_or-set_other}
 use Rattle.rules.specs.Net.{Net, size}
 use Rattle.rules.specs.Graph.{Graph, graph, row, rows_below, parent_of}
@@ -16,22 +16,23 @@ use Rattle.theory.proofs.Words.{either, same_or_not}
 use Rattle.theory.proofs.Built.{rows_grow}
 use Rattle.theory.proofs.RowsBelow.{rows_none, rows_more, rows_small, row_behind}
 use Rattle.theory.proofs.GraphRows.{row_ascends_lem}
-use Rattle.theory.proofs.Threads.{threads_none, threads_same}
-use Rattle.gather.specs.NextMembers.{members, Holds, Rises}
+use Rattle.theory.proofs.Threads.{threads_same}
+use Rattle.gather.specs.NextMembers.{members, Holds}
 use Rattle.gather.specs.Arcs.{Arcs, arcs_of}
 use Rattle.gather.specs.Gathered.{parent_in, RowsIn, Gatherable, gathered}
 use Rattle.gather.proofs.Members.{first_member}
 use Rattle.gather.proofs.Gathered.{row_made}
-use Rattle.graph.specs.declared.Room.{Room}
-use Rattle.graph.specs.declared.Room.TheVariants.{Next, Full}
+use Rattle.std.specs.Prelude.{Option, Some, None}
+use Rattle.gather.specs.declared.ArcThreads.{ArcThreads}
+use Rattle.gather.specs.declared.ChildThreads.{ChildThreads}
 use Rattle.graph.specs.Grown.{Writes, roads, Grown, Ready}
 
 -- ---- the start
 
 -- no row is written yet
-pub grown_start : (N : Net) (G : Graph) → size N ≤ 4096 → length G.first ≡ suc (size N)
-    → Grown N (graph (set G.first 0 0) G.heads) (replicate 4096 0) (replicate 4096 0) (replicate 4096 4096) 0
-grown_start N G few long =
+pub grown_start : (N : Net) (G : Graph) (children : ChildThreads) → length G.first ≡ suc (size N)
+    → Threaded (parent_of N) (size N) 4096 0 children.at children.next → Grown N (graph (set G.first 0 0) G.heads) children 0
+grown_start N G children long none =
     record {
       within = omega arith;
       first_long = length-set G.first 0 0 ∙ long;
@@ -40,13 +41,12 @@ grown_start N G few long =
       starts = λ k l.
           let e : k ≡ 0 = omega arith in
           rw e (get_or-set_same G.first 0 0 0 (omega arith) ∙ sym (ap length (rows_none N)));
-      children = threads_none (parent_of N) (size N) 4096 (replicate 4096 0) (replicate 4096 0) refl refl (λ q l. get_or-replicate {A = ℕ} 4096 q 0 0 (omega arith));
-      rises = record { long = refl; rise = λ x l. omega (arith, get_or-replicate {A = ℕ} 4096 x 4096 0 l) };
+      threads = none;
     }
 
 -- ---- the rows below p, read back
 
-module _ (N : Net) (G : Graph) (child_at child_next after : List ℕ) (p : ℕ) (g : Grown N G child_at child_next after p) where
+module _ {N : Net} {G : Graph} {children : ChildThreads} {p : ℕ} (g : Grown N G children p) where
   -- the row that the lists have for c is the row of c
   row_in : (c : ℕ) → c < p → row_at G c ≡ row N c
   row_in c l =
@@ -71,16 +71,15 @@ module _ (N : Net) (G : Graph) (child_at child_next after : List ℕ) (p : ℕ) 
       }
 
   -- and their positions are threaded by the parents that the lists have
-  children_in : Threaded (parent_in G (size N)) (size N) 4096 p child_at child_next
+  children_in : Threaded (parent_in G (size N)) (size N) 4096 p children.at children.next
   unfolding parent_of
   children_in =
-      threads_same (parent_of N) (size N) 4096 p child_at child_next g.children (parent_in G (size N))
+      threads_same (parent_of N) (size N) 4096 p children.at children.next g.threads (parent_in G (size N))
       (λ c l. ap (λ r. get_or r 0 (size N)) (sym (row_in c l)))
 
 -- ---- the row of p
 
-module _ (order : List ℕ) (G : Graph) (arc_at arc_next arc_high child_at child_next after : List ℕ) (p : ℕ)
-    (r : Ready order G arc_at arc_next arc_high child_at child_next after p) where
+module _ {M : ℕ} {order : List ℕ} {G : Graph} {arcs : ArcThreads M} {children : ChildThreads} {p : ℕ} (r : Ready order G arcs children p) where
   -- the roads, and their arcs by the positions of their ends
   abbrev N : Net
   N = roads r.laid
@@ -89,13 +88,13 @@ module _ (order : List ℕ) (G : Graph) (arc_at arc_next arc_high child_at child
   R = arcs_of r.laid.tails r.laid.heads r.laid.rank
 
   -- what the row is made of is at hand
-  pub gatherable : Gatherable R G arc_at arc_next arc_high child_at child_next (length order) p
+  pub gatherable : Gatherable R G arcs children (length order) p
   gatherable =
       record {
         inside = r.inside;
-        arcs = r.laid.threads;
-        rows = rows_in N G child_at child_next after p r.grown r.laid.few;
-        child_threads = children_in N G child_at child_next after p r.grown;
+        arcs_threaded = r.laid.threads;
+        rows = rows_in r.grown r.laid.few;
+        children_threaded = children_in r.grown;
       }
 
   -- what that brings
@@ -106,7 +105,7 @@ module _ (order : List ℕ) (G : Graph) (arc_at arc_next arc_high child_at child
   brought_row : members brought (length order) p ≡ row N p
   brought_row =
       row_made N r.laid.rank r.laid.ranks r.laid.ends_in p r.inside (row_at G)
-      (row_in N G child_at child_next after p r.grown)
+      (row_in r.grown)
 
   -- what stands at p of an array that holds it is the parent of p
   pub parent_at : (b : List ℕ) → Holds brought (length order) p b → parent_of N p ≡ get_or b p 0
@@ -128,16 +127,16 @@ module _ (order : List ℕ) (G : Graph) (arc_at arc_next arc_high child_at child
     rows_next : take at G.heads ++ members brought (length order) p ≡ rows_below N (suc p)
     rows_next = rw (at_is, r.grown.written, brought_row) (sym (rows_more N p))
 
-    module _ (heads : List ℕ) (room : Room) (w : Writes brought (length order) p at G.heads heads room) where
+    module _ (heads : List ℕ) (room : Option ℕ) (w : Writes brought (length order) p at G.heads heads room) where
       -- there is not room for it
-      pub grows_full : room ≡ Full → length G.heads < length (rows_below N (suc p))
+      pub grows_full : room ≡ None → length G.heads < length (rows_below N (suc p))
       grows_full told =
-          let full : Writes brought (length order) p at G.heads heads Full = rw told at w in
+          let full : Writes brought (length order) p at G.heads heads None = rw told at w in
           omega (arith, full, ap length rows_next)
 
-      module _ (e : ℕ) (told : room ≡ Next e) where
+      module _ (e : ℕ) (told : room ≡ Some e) where
         -- it is written up to the place told
-        next : Writes brought (length order) p at G.heads heads (Next e)
+        next : Writes brought (length order) p at G.heads heads (Some e)
         next = rw told at w
 
         -- where the rows below its successor end
@@ -149,8 +148,8 @@ module _ (order : List ℕ) (G : Graph) (arc_at arc_next arc_high child_at child
         end_small = omega (arith, end_is, rows_small N r.laid.few (suc p), r.inside, r.laid.few)
 
         -- one row more is written
-        pub grows_next : (cat cnext b : List ℕ) → Threaded (parent_of N) (size N) 4096 (p + 1) cat cnext → Rises b → Grown N (graph (set G.first (p + 1) e) heads) cat cnext b (suc p)
-        grows_next cat cnext b t u =
+        pub grows_next : (cs : ChildThreads) → Threaded (parent_of N) (size N) 4096 (p + 1) cs.at cs.next → Grown N (graph (set G.first (p + 1) e) heads) cs (suc p)
+        grows_next cs t =
             record {
               within = r.inside;
               first_long = length-set G.first (p + 1) e ∙ r.grown.first_long;
@@ -165,6 +164,5 @@ module _ (order : List ℕ) (G : Graph) (arc_at arc_next arc_high child_at child
                   ∙ end_is
                   ∙ ap (λ j. length (rows_below N j)) h)
                   (λ d. get_or-set_other G.first (p + 1) k e 0 d ∙ r.grown.starts k (omega arith));
-              children = rw (← add-one p) t;
-              rises = u;
+              threads = rw (← add-one p) t;
             }

@@ -13,7 +13,7 @@ use Rattle.rules.specs.Words.{those}
 use Rattle.theory.proofs.Those.{those_here}
 use Rattle.gather.specs.NextMembers.{Holds, members}
 use Rattle.gather.proofs.Members.{those_next}
-use Rattle.graph.specs.declared.Room.TheVariants.{Next, Full}
+use Rattle.std.specs.Prelude.{Some, None}
 use Rattle.graph.specs.Grown.{Writes}
 
 -- the members below x have been written up to place k; x is the next, or n
@@ -23,8 +23,8 @@ pub record Writing (n p at k x : ℕ) (after before heads : List ℕ) : Type 0 w
   pub holds : (S : ℕ → Bool) → Holds S n p after → (x < n → T (S x)) × (take k heads ++ those S x (n - x) ≡ take at before ++ members S n p)
 
 -- none yet
-pub writing_start : (n p at x : ℕ) (after heads : List ℕ) → at ≤ length heads → x ≡ get_or after p 0 → Writing n p at at x after heads heads
-writing_start n p at x after heads l e =
+pub writing_start : {n p at x : ℕ} {after heads : List ℕ} → at ≤ length heads → x ≡ get_or after p 0 → Writing n p at at x after heads heads
+writing_start {n} {p} {at} {x} {after} {heads} l e =
     rw e
     (record {
       room = l;
@@ -32,7 +32,7 @@ writing_start n p at x after heads l e =
       holds = λ S h. let b = h.next p (inl refl) in (b.member, ap (λ m. take at heads ++ m) (sym (those_next S n p (get_or after p 0) b)));
     })
 
-module _ (n p at k x : ℕ) (after before heads : List ℕ) (w : Writing n p at k x after before heads) where
+module _ {n p at k x : ℕ} {after before heads : List ℕ} (w : Writing n p at k x after before heads) where
   -- those from a member on are the member and those above it
   from_here : x < n → (S : ℕ → Bool) → T (S x) → those S x (n - x) ≡ x ∷ members S n x
   from_here more S t =
@@ -56,14 +56,14 @@ module _ (n p at k x : ℕ) (after before heads : List ℕ) (w : Writing n p at 
       })
 
   -- a member for which there is no place: they do not fit
-  pub writing_full : x < n → length heads ≤ k → (S : ℕ → Bool) → Holds S n p after → Writes S n p at before heads Full
+  pub writing_full : x < n → length heads ≤ k → (S : ℕ → Bool) → Holds S n p after → Writes S n p at before heads None
   writing_full more full S h =
       let (there, g) = w.holds S h in
       let m : length (take k heads ++ those S x (n - x)) ≡ length (heads ++ x ∷ members S n x) = rw (take_all k heads full, from_here more S (there more)) refl in
       omega (arith, ap length g, m, length-append heads (x ∷ members S n x), w.same_long)
 
   -- all of them
-  pub writing_end : n ≤ x → (S : ℕ → Bool) → Holds S n p after → Writes S n p at before heads (Next k)
+  pub writing_end : n ≤ x → (S : ℕ → Bool) → Holds S n p after → Writes S n p at before heads (Some k)
   unfolding those
   writing_end past S h =
       let (there, g) = w.holds S h in

@@ -2,165 +2,153 @@
 // The row of p is the arc neighbours of p above it together with the rows of p's children less p, so that the whole takes little more than E steps.
 #![tactic(auto)]
 
-ghost use Rattle.std.specs.Prelude.{ℕ, suc, ◌+◌, ◌-◌, ◌≤◌, ◌<◌, ◌≡◌, Bool, [], length};
+ghost use Rattle.std.specs.Prelude.{ℕ, suc, ◌+◌, ◌-◌, ◌≤◌, ◌<◌, ◌≡◌, Bool, [], length, get_or, Some, IfSome};
 ghost use Rattle.rules.specs.Net.{net, rank_list};
 ghost use Rattle.rules.specs.Graph.{graph};
 ghost use Rattle.theory.specs.Accepted.{Buildable};
-ghost use Rattle.gather.specs.NextMembers.{Holds, Rises};
-ghost use Rattle.graph.specs.declared.Room.TheVariants.{Next};
+ghost use Rattle.gather.specs.NextMembers.{Holds};
 ghost use Rattle.graph.specs.Grown.{Writes, Laid, roads, Ready, Grows, Fills};
 ghost use Rattle.graph.specs.Contracted.{left, contracted};
 
-use gather::{gather_row, thread_arcs, thread_child};
+use gather::{ArcThreads, ChildThreads, NextMembers};
 use lists::fill;
-use rules::{Position, wide};
-
-// What writing rows answers: the next free place of row_heads, or that the room is full.
-#[derive(Clone, Copy)]
-pub enum Room {
-    Next(usize),
-    Full,
-}
+use rules::{Graph, Position};
 
 // Writes the members of the set of p, in ascending order, from place `at` of row_heads on, where there is a place for every position above p.
+// Not a `for`, here and below: the next member is read from the set, and how many there are is known at the end.
 fn write_fitting(
     row_heads: &mut [u32],
-    after: &[u32; 4096],
+    set: &NextMembers,
     n: usize,
     p: Position,
     at: usize,
 ) -> usize
-    requires { Rises after.now × (p.0 < n) × (n ≤ 4096) × (at + (n - p.0) ≤ length row_heads.old) }
-    ensures { (S : ℕ → Bool) → Holds S n p.0 after.now → Writes S n p.0 at row_heads.old row_heads.new (Next result) }
+    requires { (p.0 < n) × (n ≤ 4096) × (at + (n - p.0) ≤ length row_heads.old) }
+    ensures { (S : ℕ → Bool) → Holds S n p.0 set.now.after → Writes S n p.0 at row_heads.old row_heads.new (Some result) }
 {
-    let x = p.0 as usize;
     let mut k = at;
-    let mut member = wide(after[x]);
+    let mut member = set.after[p.0 as usize] as usize;
+    // k is counted beside the walk along the set: no range or iterator gives the members.
     while member < n {
         row_heads[k] = member as u32;
         k += 1;
-        member = wide(after[member]);
+        member = set.after[member] as usize;
     }
     k
 }
 
-// Writes the members of the set of p, in ascending order, from place `at` of row_heads on, and watches for the end of the room only where it is near.
-fn write_row(row_heads: &mut [u32], after: &[u32; 4096], n: usize, p: Position, at: usize) -> Room
-    requires { Rises after.now × (p.0 < n) × (n ≤ 4096) × (at ≤ length row_heads.old) }
-    ensures { (S : ℕ → Bool) → Holds S n p.0 after.now → Writes S n p.0 at row_heads.old row_heads.new result }
+// Writes the members of the set of p, in ascending order, from place `at` of row_heads on, and answers the next free place; none if the room is
+// full. It watches for the end of the room only where that is near: one loop for all rows would test for it at every entry.
+fn write_row(
+    row_heads: &mut [u32],
+    set: &NextMembers,
+    n: usize,
+    p: Position,
+    at: usize,
+) -> Option<usize>
+    requires { (p.0 < n) × (n ≤ 4096) × (at ≤ length row_heads.old) }
+    ensures { (S : ℕ → Bool) → Holds S n p.0 set.now.after → Writes S n p.0 at row_heads.old row_heads.new result }
 {
     let x = p.0 as usize;
     if n - x <= row_heads.len() - at {
-        return Room::Next(write_fitting(row_heads, after, n, p, at));
+        return Some(write_fitting(row_heads, set, n, p, at));
     }
     let mut k = at;
-    let mut next = wide(after[x]);
+    let mut next = set.after[x] as usize;
+    // k is counted beside the walk, as above.
     while next < n {
         if row_heads.len() <= k {
-            return Room::Full;
+            return None;
         }
         row_heads[k] = next as u32;
         k += 1;
-        next = wide(after[next]);
+        next = set.after[next] as usize;
     }
-    Room::Next(k)
+    Some(k)
 }
 
-// Writes the row of p behind the rows below p, and threads p by its parent.
-fn add_row(
+// Writes the row of p behind the rows below p, threads p by its parent, and answers where the row ends; none if the room is full.
+// `first` and `row_heads` stay two parameters: of a struct that is made of two `&mut`, its maker learns nothing once it was written.
+fn add_row<const N: usize>(
     order: &[u32],
     first: &mut [u32],
     row_heads: &mut [u32],
-    arc_at: &[u16; 4096],
-    arc_next: &[u16],
-    arc_high: &[u16],
-    child_at: &mut [u16; 4096],
-    child_next: &mut [u16; 4096],
-    after: &mut [u32; 4096],
+    arcs: &ArcThreads<N>,
+    children: &mut ChildThreads,
+    set: &mut NextMembers,
     p: Position,
-) -> Room
-    requires { Ready order.now (graph first.old row_heads.old) arc_at.now arc_next.now arc_high.now child_at.old child_next.old after.old p.0 }
-    ensures { (R : Ready order.now (graph first.old row_heads.old) arc_at.now arc_next.now arc_high.now child_at.old child_next.old after.old p.0) → Grows (roads R.laid) (graph first.new row_heads.new) child_at.new child_next.new after.new p.0 (length row_heads.old) result }
+) -> Option<usize>
+    requires { Ready order.now (graph first.old row_heads.old) arcs.now children.old p.0 }
+    ensures end { IfSome result (λ e. get_or first.new (p.0 + 1) 0 ≡ e) }
+    ensures rows { (R : Ready order.now (graph first.old row_heads.old) arcs.now children.old p.0) → Grows (roads R.laid) (graph first.new row_heads.new) children.new p.0 (length row_heads.old) result }
 {
     let n = order.len();
     let x = p.0 as usize;
-    gather_row(
-        first, row_heads, arc_at, arc_next, arc_high, child_at, child_next, after, n, p,
-    );
-    let at = wide(first[x]);
-    let Room::Next(e) = write_row(row_heads, after, n, p, at) else {
-        return Room::Full;
+    let rows = Graph {
+        first: &*first,
+        heads: &*row_heads,
     };
-    first[x + 1] = e as u32;
-    let parent = Position(after[x]);
-    thread_child(child_at, child_next, n, p, parent);
-    Room::Next(e)
+    set.gather_row(&rows, arcs, children, n, p);
+    let end = write_row(row_heads, set, n, p, first[x] as usize)?;
+    first[x + 1] = end as u32;
+    children.add(n, p, Position(set.after[x]));
+    Some(end)
 }
 
-// Writes all rows, for each position from 0 upward, until one does not fit.
-fn add_rows(
+// Writes all rows, for each position from 0 upward, and answers where the last ends; none if one does not fit.
+fn add_rows<const N: usize>(
     order: &[u32],
     first: &mut [u32],
     row_heads: &mut [u32],
-    arc_at: &[u16; 4096],
-    arc_next: &[u16],
-    arc_high: &[u16],
-) -> Room
-    requires { Laid order.now arc_at.now arc_next.now arc_high.now × (length first.old ≡ suc (length order.now)) }
-    ensures { (L : Laid order.now arc_at.now arc_next.now arc_high.now) → Fills (roads L) (graph first.new row_heads.new) (length row_heads.old) result }
+    arcs: &ArcThreads<N>,
+) -> Option<usize>
+    requires { Laid order.now arcs.now × (length first.old ≡ suc (length order.now)) }
+    ensures { (L : Laid order.now arcs.now) → Fills (roads L) (graph first.new row_heads.new) (length row_heads.old) result }
 {
-    let mut child_at = [0u16; 4096];
-    let mut child_next = [0u16; 4096];
-    let mut after = [4096u32; 4096];
+    let mut children = ChildThreads::new();
+    let mut set = NextMembers::new();
     first[0] = 0;
-    let mut p = 0;
-    while p < order.len() {
-        if let Room::Full = add_row(
+    let mut end = 0;
+    for p in 0..order.len() {
+        end = add_row(
             order,
             first,
             row_heads,
-            arc_at,
-            arc_next,
-            arc_high,
-            &mut child_at,
-            &mut child_next,
-            &mut after,
+            arcs,
+            &mut children,
+            &mut set,
             Position(p as u32),
-        ) {
-            return Room::Full;
-        }
-        p += 1;
+        )?;
     }
-    Room::Next(wide(first[p]))
+    Some(end)
 }
 
-// The contraction itself, in lent room for the threads of arcs.
-fn contract_with(
+// The contraction itself, with room for the threads of N arcs.
+// Lists one by one, as build gets them: there are no costs for a Net, and first and row_heads are written.
+fn contract_in<const N: usize>(
     tails: &[u32],
     heads: &[u32],
     order: &[u32],
     rank: &[u32],
     first: &mut [u32],
     row_heads: &mut [u32],
-    arc_next: &mut [u16],
-    arc_high: &mut [u16],
-) -> Room
-    requires { Buildable tails.now heads.now order.now rank.now first.old × (rank.now ≡ rank_list order.now) × (length tails.now ≤ length arc_next.old) × (length tails.now ≤ length arc_high.old) }
+) -> Option<usize>
+    requires { Buildable tails.now heads.now order.now rank.now first.old × (rank.now ≡ rank_list order.now) × (length tails.now ≤ N) × (N ≤ 16384) }
     ensures { left result (graph first.new row_heads.new) ≡ contracted (net tails.now heads.now [] order.now) (length row_heads.old) }
 {
-    let mut arc_at = [0u16; 4096];
-    thread_arcs(tails, heads, rank, &mut arc_at, arc_next, arc_high);
-    let Room::Next(edges) = add_rows(order, first, row_heads, &arc_at, arc_next, arc_high) else {
+    let mut arcs = ArcThreads::<N>::new();
+    arcs.lay(tails, heads, rank);
+    let Some(edges) = add_rows(order, first, row_heads, &arcs) else {
         fill(first, 0, 0);
         fill(row_heads, 0, 0);
-        return Room::Full;
+        return None;
     };
     fill(row_heads, edges, 0);
-    Room::Next(edges)
+    Some(edges)
 }
 
-// The rows of the shortcut graph, written into first and row_heads; all 0 if there is not room for them. The room for the threads of arcs goes by
-// their number, so that few arcs do not pay for the clearing of much room.
+// The rows of the shortcut graph, written into first and row_heads, and their number of entries; none, and all 0, if there is not room for them.
+// The room for the threads of arcs goes by their number, so that few arcs do not pay for the clearing of much room.
 pub fn contract(
     tails: &[u32],
     heads: &[u32],
@@ -168,20 +156,12 @@ pub fn contract(
     rank: &[u32],
     first: &mut [u32],
     row_heads: &mut [u32],
-) -> Room
+) -> Option<usize>
     requires { Buildable tails.now heads.now order.now rank.now first.old × (rank.now ≡ rank_list order.now) }
     ensures { left result (graph first.new row_heads.new) ≡ contracted (net tails.now heads.now [] order.now) (length row_heads.old) }
 {
     if tails.len() <= 2048 {
-        let mut next = [0u16; 2048];
-        let mut high = [0u16; 2048];
-        return contract_with(
-            tails, heads, order, rank, first, row_heads, &mut next, &mut high,
-        );
+        return contract_in::<2048>(tails, heads, order, rank, first, row_heads);
     }
-    let mut next = [0u16; 16384];
-    let mut high = [0u16; 16384];
-    contract_with(
-        tails, heads, order, rank, first, row_heads, &mut next, &mut high,
-    )
+    contract_in::<16384>(tails, heads, order, rank, first, row_heads)
 }

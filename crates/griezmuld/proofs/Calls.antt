@@ -25,8 +25,7 @@ use Rattle.theory.proofs.Verdicts.{first_passes}
 use Rattle.theory.specs.Rows.{count, Lists}
 use Rattle.sweep.specs.Swept.{Places}
 use Rattle.graph.specs.Contracted.{Left, left, contracted}
-use Rattle.graph.specs.declared.Room.{Room}
-use Rattle.graph.specs.declared.Room.TheVariants.{Next, Full}
+use Rattle.std.specs.Prelude.{Option, Some, None}
 
 -- ---- build
 
@@ -59,7 +58,7 @@ module _ (tails heads order rank₀ : List ℕ) (G₀ : Graph) (c : build_checks
   room = length G₀.heads
 
   -- the room of heads was too short: 6, and all is 0
-  pub build_full : (answer : Room) (written rank : List ℕ) (G : Graph) → left answer G ≡ contracted N room → answer ≡ Full
+  pub build_full : (answer : Option ℕ) (written rank : List ℕ) (G : Graph) → left answer G ≡ contracted N room → answer ≡ None
       → written ≡ rank_list order → rank ≡ filled written 0 0
       → build_left rank G (refused 6 0) ≡ build_leaves tails heads order rank₀ G₀
   unfolding build_leaves contracted check6
@@ -69,29 +68,29 @@ module _ (tails heads order rank₀ : List ℕ) (G₀ : Graph) (c : build_checks
       let r : rank ≡ replicate (length rank₀) 0 = f ∙ filled_whole written 0 ∙ ap (λ k. replicate k 0) l in
       either (split (leb (edge_count N) room))
       (λ d.
-      let g : left answer G ≡ left (Next (edge_count N)) (graph (first_list N) (heads_list N ++ replicate (room - edge_count N) 0)) = rw d at e in
-      let f : Full ≡ Next (edge_count N) = sym o ∙ ap (λ (l : Left). l.reply) g in
+      let g : left answer G ≡ left (Some (edge_count N)) (graph (first_list N) (heads_list N ++ replicate (room - edge_count N) 0)) = rw d at e in
+      let f : None ≡ Some (edge_count N) = sym o ∙ ap (λ (l : Left). l.reply) g in
       let z : ◌≡◌ {A = ℕ} 0 1 = cc in absurd (omega arith))
       (λ d.
-      let g : left answer G ≡ left Full (graph (replicate (suc (length order)) 0) (replicate room 0)) = rw d at e in
+      let g : left answer G ≡ left None (graph (replicate (suc (length order)) 0) (replicate room 0)) = rw d at e in
       let eg : G ≡ graph (replicate (suc (length order)) 0) (replicate room 0) = ap (λ (l : Left). l.rows) g in
       rw (c, lt-ltb room (edge_count N) (leb-false (edge_count N) room d), r, eg, B.first_long) refl)
 
   -- the graph was written: E is told
-  pub build_told : (answer : Room) (rank : List ℕ) (G : Graph) (e : ℕ) → rank ≡ rank_list order → left answer G ≡ contracted N room → answer ≡ Next e
+  pub build_told : (answer : Option ℕ) (rank : List ℕ) (G : Graph) (e : ℕ) → rank ≡ rank_list order → left answer G ≡ contracted N room → answer ≡ Some e
       → build_left rank G (edges e) ≡ build_leaves tails heads order rank₀ G₀
   unfolding build_leaves contracted check6
   build_told answer rank G e r f o =
       either (split (leb (edge_count N) room))
       (λ d.
-      let g : left answer G ≡ left (Next (edge_count N)) (graph (first_list N) (heads_list N ++ replicate (room - edge_count N) 0)) = rw d at f in
-      let er : Next e ≡ Next (edge_count N) = sym o ∙ ap (λ (l : Left). l.reply) g in
+      let g : left answer G ≡ left (Some (edge_count N)) (graph (first_list N) (heads_list N ++ replicate (room - edge_count N) 0)) = rw d at f in
+      let er : Some e ≡ Some (edge_count N) = sym o ∙ ap (λ (l : Left). l.reply) g in
       let ee : e ≡ edge_count N = cc in
       let eg : G ≡ graph (first_list N) (heads_list N ++ replicate (room - edge_count N) 0) = ap (λ (l : Left). l.rows) g in
       rw (c, le-ltb room (edge_count N) (leb-true (edge_count N) room d), r, ee, eg) refl)
       (λ d.
-      let g : left answer G ≡ left Full (graph (replicate (suc (length order)) 0) (replicate room 0)) = rw d at f in
-      let er : Next e ≡ Full = sym o ∙ ap (λ (l : Left). l.reply) g in
+      let g : left answer G ≡ left None (graph (replicate (suc (length order)) 0) (replicate room 0)) = rw d at f in
+      let er : Some e ≡ None = sym o ∙ ap (λ (l : Left). l.reply) g in
       let z : ◌≡◌ {A = ℕ} 0 1 = cc in absurd (omega arith))
 
 -- ---- customise

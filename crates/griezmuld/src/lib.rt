@@ -1,5 +1,6 @@
 // The public calls. Any lists may come in: each call checks what it gets, in the paper's order, and then does the work.
 // Each promise is one equation: what the call leaves, reply and every lent list, is the definition at what it got.
+// Each list is a parameter of its own, and each sweep a call of its own, as C lends and calls them; inside they go together as Net, Graph, EdgeCosts.
 #![tactic(auto)]
 
 ghost use Rattle.std.specs.Prelude.{◌≡◌};
@@ -17,12 +18,9 @@ use checks::{
 use customise::customise_costs;
 use distance::ask;
 use drive::route_between;
-use graph::{Room, contract};
-use lists::{Check, fill, fill_rank, position_of};
-use rules::{
-    BuildAnswer, ChangeAnswer, Cost, Direction, DistanceAnswer, FillAnswer, Junction, NONE,
-    Refusal, RouteAnswer,
-};
+use graph::contract;
+use lists::{fill, fill_rank, position_of};
+use rules::{Cost, Direction, Drive, EdgeCosts, Graph, Junction, NONE, Net, Refusal};
 use sweep::sweep_by;
 
 // Roads and order to the shortcut graph: rank, first and row_heads are filled, and E is told.
@@ -33,18 +31,16 @@ pub fn build(
     rank: &mut [u32],
     first: &mut [u32],
     row_heads: &mut [u32],
-) -> BuildAnswer
+) -> Result<usize, Refusal>
     ensures { build_left rank.new (graph first.new row_heads.new) (build_reply result) ≡ build_leaves tails.now heads.now order.now rank.old (graph first.old row_heads.old) }
 {
-    if let Check::Fails(refusal) = check_build(tails, heads, order, rank, first) {
-        return BuildAnswer::Refused(refusal);
-    }
+    check_build(tails, heads, order, rank, first)?;
     fill_rank(order, rank);
-    let Room::Next(e) = contract(tails, heads, order, rank, first, row_heads) else {
+    let Some(e) = contract(tails, heads, order, rank, first, row_heads) else {
         fill(rank, 0, 0);
-        return BuildAnswer::Refused(Refusal::HeadsRoom);
+        return Err(Refusal::HeadsRoom);
     };
-    BuildAnswer::Edges(e)
+    Ok(e)
 }
 
 // Costs to shortcut costs: up and down are filled, each to its own end.
@@ -58,16 +54,30 @@ pub fn customise(
     row_heads: &[u32],
     up: &mut [u32],
     down: &mut [u32],
-) -> FillAnswer
+) -> Result<(), Refusal>
     ensures { customise_left (edge_costs up.new down.new) (fill_reply result) ≡ customise_leaves (net tails.now heads.now costs.now order.now) rank.now (graph first.now row_heads.now) (edge_costs up.old down.old) }
 {
-    if let Check::Fails(refusal) = check_customise(
-        tails, heads, costs, order, rank, first, row_heads, up, down,
-    ) {
-        return FillAnswer::Refused(refusal);
-    }
-    customise_costs(tails, heads, costs, order, rank, first, row_heads, up, down);
-    FillAnswer::Done
+    let net = Net {
+        tails,
+        heads,
+        costs,
+        order,
+    };
+    let graph = Graph {
+        first,
+        heads: row_heads,
+    };
+    check_customise(
+        &net,
+        rank,
+        &graph,
+        &EdgeCosts {
+            up: &*up,
+            down: &*down,
+        },
+    )?;
+    customise_costs(&net, rank, &graph, up, down);
+    Ok(())
 }
 
 // A new cost of one arc: the cost list and the shortcut costs change together or not at all. How many lower triangles were looked at is told.
@@ -83,16 +93,31 @@ pub fn change(
     down: &mut [u32],
     arc: usize,
     cost: Cost,
-) -> ChangeAnswer
+) -> Result<u64, Refusal>
     ensures { change_left costs.new (edge_costs up.new down.new) (change_reply result) ≡ change_leaves (net tails.now heads.now costs.old order.now) rank.now (graph first.now row_heads.now) (edge_costs up.old down.old) arc cost.0 }
 {
-    if let Check::Fails(refusal) = check_change(
-        tails, heads, costs, order, rank, first, row_heads, up, down, arc, cost,
-    ) {
-        return ChangeAnswer::Refused(refusal);
-    }
-    ChangeAnswer::Triangles(change_costs(
-        tails, heads, costs, order, rank, first, row_heads, up, down, arc, cost,
+    let graph = Graph {
+        first,
+        heads: row_heads,
+    };
+    check_change(
+        &Net {
+            tails,
+            heads,
+            costs: &*costs,
+            order,
+        },
+        rank,
+        &graph,
+        &EdgeCosts {
+            up: &*up,
+            down: &*down,
+        },
+        arc,
+        cost,
+    )?;
+    Ok(change_costs(
+        tails, heads, costs, order, rank, &graph, up, down, arc, cost,
     ))
 }
 
@@ -106,21 +131,22 @@ pub fn distance<'a>(
     down: &'a [u32],
     from: Junction,
     to: Junction,
-) -> DistanceAnswer
+) -> Result<Option<u64>, Refusal>
     ensures { distance_left (distance_reply result) ≡ distance_leaves order.now rank.now (graph first.now row_heads.now) (edge_costs up.now down.now) from.0 to.0 }
 {
-    if let Check::Fails(refusal) = check_distance(
-        order, rank, first, row_heads, up, down, from, to,
-    ) {
-        return DistanceAnswer::Refused(refusal);
-    }
+    let graph = Graph {
+        first,
+        heads: row_heads,
+    };
+    let costs = EdgeCosts { up, down };
+    check_distance(order, rank, &graph, &costs, from, to)?;
     let s = position_of(rank, from);
     let t = position_of(rank, to);
-    let d = ask(first, row_heads, up, down, s, t);
+    let d = ask(&graph, &costs, s, t);
     if d == NONE {
-        return DistanceAnswer::NoWalk;
+        return Ok(None);
     }
-    DistanceAnswer::Tenths(d)
+    Ok(Some(d))
 }
 
 // Both sweeps: the distances from a junction, or, for the other direction, to it, by the lists as they are.
@@ -134,15 +160,16 @@ fn sweep<'a>(
     d: Direction,
     j: Junction,
     distances: &mut [u32],
-) -> FillAnswer
+) -> Result<(), Refusal>
     ensures { sweep_left distances.new (fill_reply result) ≡ sweep_leaves order.now rank.now (graph first.now row_heads.now) (edge_costs up.now down.now) d j.0 distances.old }
 {
-    if let Check::Fails(refusal) = check_sweep(
-        order, rank, first, row_heads, up, down, j, distances,
-    ) {
-        return FillAnswer::Refused(refusal);
-    }
-    sweep_by(rank, first, row_heads, up, down, d, j, distances)
+    let graph = Graph {
+        first,
+        heads: row_heads,
+    };
+    let costs = EdgeCosts { up, down };
+    check_sweep(order, rank, &graph, &costs, j, distances)?;
+    sweep_by(rank, &graph, &costs, d, j, distances)
 }
 
 // The distance from one junction to every junction, written into the list: from the dairy to every farm.
@@ -155,7 +182,7 @@ pub fn sweep_from<'a>(
     down: &'a [u32],
     from: Junction,
     distances: &mut [u32],
-) -> FillAnswer
+) -> Result<(), Refusal>
     ensures { sweep_left distances.new (fill_reply result) ≡ sweep_leaves order.now rank.now (graph first.now row_heads.now) (edge_costs up.now down.now) Up from.0 distances.old }
 {
     sweep(
@@ -181,7 +208,7 @@ pub fn sweep_to<'a>(
     down: &'a [u32],
     to: Junction,
     distances: &mut [u32],
-) -> FillAnswer
+) -> Result<(), Refusal>
     ensures { sweep_left distances.new (fill_reply result) ≡ sweep_leaves order.now rank.now (graph first.now row_heads.now) (edge_costs up.now down.now) Down to.0 distances.old }
 {
     sweep(
@@ -211,15 +238,20 @@ pub fn route<'a>(
     from: Junction,
     to: Junction,
     list: &mut [u32],
-) -> RouteAnswer
+) -> Result<Option<Drive>, Refusal>
     ensures { route_left list.new (route_reply result) ≡ route_leaves (net tails.now heads.now costs.now order.now) rank.now (graph first.now row_heads.now) (edge_costs up.now down.now) from.0 to.0 list.old }
 {
-    if let Check::Fails(refusal) = check_route(
-        tails, heads, costs, order, rank, first, row_heads, up, down, from, to,
-    ) {
-        return RouteAnswer::Refused(refusal);
-    }
-    route_between(
-        tails, heads, costs, order, rank, first, row_heads, up, down, from, to, list,
-    )
+    let net = Net {
+        tails,
+        heads,
+        costs,
+        order,
+    };
+    let graph = Graph {
+        first,
+        heads: row_heads,
+    };
+    let edge_costs = EdgeCosts { up, down };
+    check_route(&net, rank, &graph, &edge_costs, from, to)?;
+    route_between(&net, rank, &graph, &edge_costs, from, to, list)
 }

@@ -149,21 +149,7 @@ pub record Compared (h : List ℕ) (k end gap at : ℕ) (same : Bool) : Type 0 w
   pub within : at ≤ end
   pub so_far : ((same ≡ true) × Run h k at gap) ⊎ ((same ≡ false) × (Run h k end gap → ⊥))
 
--- none yet
-pub compared_start : (h : List ℕ) (k end gap : ℕ) → k ≤ end → Compared h k end gap k true
-compared_start h k end gap l = record { within = l; so_far = inl (refl, run_none h k gap) }
-
 module _ {h : List ℕ} {k end gap at : ℕ} {same : Bool} (c : Compared h k end gap at same) where
-  -- two that are the same
-  pub compared_same : at < end → get_or h (at + gap) 0 ≡ get_or h at 0 → Compared h k end gap (at + 1) same
-  compared_same l e =
-      let one : Run h at (at + 1) gap = record { alike = λ i m n. let x : i ≡ at = omega arith in rw x e } in
-      record { within = omega arith; so_far = either c.so_far (λ s. inl (s.0, run_on s.1 one (omega arith))) (λ s. inr s) }
-
-  -- two that differ
-  pub compared_other : k ≤ at → at < end → (get_or h (at + gap) 0 ≡ get_or h at 0 → ⊥) → Compared h k end gap (at + 1) false
-  compared_other m l n = record { within = omega arith; so_far = inr (refl, (λ r. n (r.alike at m l))) }
-
   -- all compared
   pub compared_all : k ≤ end → end + gap ≤ length h → end ≤ at → same ≡ run_holds h k end gap
   compared_all m fits l =

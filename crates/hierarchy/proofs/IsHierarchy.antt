@@ -31,14 +31,13 @@ module _ (order rank : List ℕ) (G : Graph) where
   fails7 e = rw e refl
 
   -- an order that the rank list does not give back
-  pub graph_unranked : seats_agree order rank ≡ false → check4 order ≡ passes
-      → fails 7 0 ≡ first_failure (check4 order ∷ check7 order rank G ∷ [])
-  graph_unranked e d =
+  pub unranked7 : seats_agree order rank ≡ false → check4 order ≡ passes → check7 order rank G ≡ fails 7 0
+  unranked7 e d =
       let no : inverts order rank ≡ false =
       either (split (inverts order rank))
       (λ t. true_false (sym (holds_true (seats_agree order rank) (right_seats rank (ordered order d) (true_holds (inverts order rank) t))) ∙ e))
       (λ t. t) in
-      rw (d, fails7 (hierarchy_parts order rank G ∙ rw no refl)) refl
+      fails7 (hierarchy_parts order rank G ∙ rw no refl)
 
   module _ (seats : seats_agree order rank ≡ true) where
     -- then the order and the rank list are right
@@ -49,14 +48,20 @@ module _ (order rank : List ℕ) (G : Graph) where
     rows_decide : is_hierarchy order rank G ≡ rows_hold (length order) G
     rows_decide = hierarchy_parts order rank G ∙ rw (holds_true (inverts order rank) seats_hold.1) refl
 
+    -- 4 passes
+    pub ranked4 : check4 order ≡ passes
+    ranked4 = ordered_passes seats_hold.0
+
     -- the rows do not hold
-    pub graph_rowless : rows_hold (length order) G ≡ false → fails 7 0 ≡ first_failure (check4 order ∷ check7 order rank G ∷ [])
-    graph_rowless e = rw (ordered_passes seats_hold.0, fails7 (rows_decide ∙ e)) refl
+    pub rowless7 : rows_hold (length order) G ≡ false → check7 order rank G ≡ fails 7 0
+    rowless7 e = fails7 (rows_decide ∙ e)
 
     -- all holds
-    pub graph_passes : rows_hold (length order) G ≡ true → passes ≡ first_failure (check4 order ∷ check7 order rank G ∷ [])
-    graph_passes e =
-        rw (ordered_passes seats_hold.0, hierarchy_passes order rank G (true_holds (is_hierarchy order rank G) (rows_decide ∙ e))) refl
+    pub rows7 : rows_hold (length order) G ≡ true → check7 order rank G ≡ passes
+    rows7 e = hierarchy_passes order rank G (true_holds (is_hierarchy order rank G) (rows_decide ∙ e))
+
+-- what decides 4 and 7
+pub ruleset decided = (unranked7, ranked4, rowless7, rows7)
 
 -- ---- what is known once both pass
 

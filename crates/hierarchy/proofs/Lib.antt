@@ -1,4 +1,3 @@
-pub mod Verdict
 pub mod SeatsAgree
 pub mod InOrder
 pub mod RowHolds

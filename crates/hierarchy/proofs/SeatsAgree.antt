@@ -1,12 +1,12 @@
 -- The rank list gives back every position: what the test says of the order and of the rank list. Assumes nothing.
-use Prim.Native.Nat.{ℕ, ◌+◌, ◌≤◌, ◌<◌}
-use mathlib.Core.Path.{◌≡◌, refl, sym, ap, ◌∙◌, subst}
+use Prim.Native.Nat.{ℕ, ◌≤◌, ◌<◌}
+use mathlib.Core.Path.{◌≡◌, refl, sym, ap, ◌∙◌}
 use mathlib.Core.Bool.{true, false}
 use mathlib.Core.List.{List}
 use native.Mathlib.Omega.{arith}
 use lib.Dec.{T, eqb}
 use lib.ListN.{length, get_or}
-use borrow.Author.Tests.{ne_eqb, eqb-true, eqb-false}
+use borrow.Author.Tests.{ne_eqb}
 use Rattle.rules.specs.Words.{each}
 use Rattle.rules.specs.Hierarchy.{inverts}
 use Rattle.theory.proofs.Words.{either, split, holds_true, true_holds, and_l, and_r, and_i, eqb_e, eqb_i, ltb_e, ltb_i, each_e, each_i}
@@ -58,23 +58,6 @@ pub record Seats (order rank : List ℕ) (p : ℕ) : Type 0 where
   pub within : p ≤ length order
   pub long : length rank ≡ length order
   pub back : (q : ℕ) → q < p → SeatedAt order rank q
-
--- none to begin with
-pub seats_start : (order rank : List ℕ) → length rank ≡ length order → Seats order rank 0
-seats_start order rank e = record { within = omega arith; long = e; back = λ q h. absurd (omega arith) }
-
--- one position more
-pub seats_more : {order rank : List ℕ} {p : ℕ} → Seats order rank p → (j : ℕ) → p < length order → j ≡ get_or order p 0 → j < length order → get_or rank j 0 ≡ p
-    → Seats order rank (p + 1)
-seats_more {order} {rank} {p} s j h e l d =
-    record {
-      within = omega arith;
-      long = s.long;
-      back = λ q m.
-          either (split (eqb q p))
-          (λ f. subst (SeatedAt order rank) (sym (eqb-true q p f)) (omega arith, ap (λ i. get_or rank i 0) (sym e) ∙ d))
-          (λ f. s.back q (omega (arith, eqb-false q p f)));
-    }
 
 -- all of them
 pub seats_all : {order rank : List ℕ} {p : ℕ} → Seats order rank p → length order ≤ p → true ≡ seats_agree order rank

@@ -3,13 +3,13 @@
 
 ghost use Rattle.std.specs.Prelude.{suc, ◌+◌, ◌≤◌, ◌<◌, ◌≡◌, ◌&&◌, [], ◌∷◌, ltb, length};
 ghost use Rattle.std.proofs.Math.Seq.{slice};
-ghost use Rattle.rules.specs.Graph.{graph};
+ghost use Rattle.rules.specs.Lent.{lent_graph};
 ghost use Rattle.rules.specs.Refusals.{first_failure, check4, check7};
 ghost use Rattle.lists.specs.Lent.{verdict};
 ghost use Rattle.hierarchy.specs.Tests.{seats_agree, rows_hold, in_order, row_holds, RowsFrom};
 
-use lists::{Check, check_order, junction_at, position_of};
-use rules::{Position, Refusal, wide};
+use lists::check_order;
+use rules::{Graph, Position, Refusal};
 
 // The rank list is as long as the order and gives back every position: then the order is one, too.
 fn ranks_order(order: &[u32], rank: &[u32]) -> bool
@@ -19,17 +19,10 @@ fn ranks_order(order: &[u32], rank: &[u32]) -> bool
     if rank.len() != order.len() {
         return false;
     }
-    let n = order.len() as u32;
-    let mut p = 0;
-    while p < n {
-        let j = junction_at(order, Position(p));
-        if n <= j.0 {
+    for (p, &j) in order.iter().enumerate() {
+        if order.len() <= j as usize || rank[j as usize] as usize != p {
             return false;
         }
-        if position_of(rank, j).0 != p {
-            return false;
-        }
-        p += 1;
     }
     true
 }
@@ -40,19 +33,17 @@ fn eight_same(row_heads: &[u32], k: usize, gap: usize) -> bool
     ensures { result ≡ in_order (slice k (k + 8) row_heads.now) (slice (k + gap) (k + 8 + gap) row_heads.now) }
 {
     let mut same = true;
-    let mut i = 0;
-    while i < 8 {
+    for i in 0..8 {
         let at = k + i;
         if row_heads[at + gap] != row_heads[at] {
             same = false;
         }
-        i += 1;
     }
     same
 }
 
-// The entries from k to end, eight or more, are those that stand `gap` places behind them: by eights, of which the last goes back over
-// entries of the one before, so that none are left over.
+// The entries from k to end, eight or more, are those that stand `gap` places behind them: eight at a turn, for speed, of which the last go
+// back over entries of those before, so that none are left over.
 fn same_entries(row_heads: &[u32], k: usize, end: usize, gap: usize) -> bool
     requires { (k + 8 ≤ end) × (end + gap ≤ length row_heads.now) }
     ensures { result ≡ in_order (slice k end row_heads.now) (slice (k + gap) (end + gap) row_heads.now) }
@@ -68,8 +59,8 @@ fn same_entries(row_heads: &[u32], k: usize, end: usize, gap: usize) -> bool
     eight_same(row_heads, last, gap)
 }
 
-// The entries from k to end are met in order from j to stop: two places at a turn, with the entry that is wanted at hand. The end of the
-// entries is asked for once in a turn, so what is wanted may come to stand behind them.
+// The entries from k to end are met in order from j to stop: two places at a turn, with the entry that is wanted at hand, for speed. The end
+// of the entries is asked for once in a turn, so what is wanted may come to stand behind them.
 fn met_in(row_heads: &[u32], k: usize, end: usize, j: usize, stop: usize) -> bool
     requires { (k < end) × (end ≤ j) × (j ≤ stop) × (stop ≤ length row_heads.now) }
     ensures { result ≡ in_order (slice k end row_heads.now) (slice j stop row_heads.now) }
@@ -97,12 +88,7 @@ fn met_in(row_heads: &[u32], k: usize, end: usize, j: usize, stop: usize) -> boo
         }
         next += 2;
     }
-    if next < stop {
-        if row_heads[next] == want {
-            return at + 1 == end;
-        }
-    }
-    false
+    next < stop && row_heads[next] == want && at + 1 == end
 }
 
 // The entries from k to end come in order among those from j to stop, which stand behind them: where there are as many, all are the same,
@@ -112,10 +98,8 @@ fn comes_in(row_heads: &[u32], k: usize, end: usize, j: usize, stop: usize) -> b
     ensures { result ≡ in_order (slice k end row_heads.now) (slice j stop row_heads.now) }
 {
     let many = end - k;
-    if stop - j == many {
-        if 8 <= many {
-            return same_entries(row_heads, k, end, j - k);
-        }
+    if stop - j == many && 8 <= many {
+        return same_entries(row_heads, k, end, j - k);
     }
     met_in(row_heads, k, end, j, stop)
 }
@@ -124,60 +108,45 @@ fn comes_in(row_heads: &[u32], k: usize, end: usize, j: usize, stop: usize) -> b
 fn is_above(n: usize, p: Position, parent: Position) -> bool
     ensures { result ≡ (ltb p.0 parent.0 && ltb parent.0 n) }
 {
-    if parent.0 <= p.0 {
-        return false;
-    }
-    let above = parent.0 as usize;
-    above < n
+    p < parent && (parent.0 as usize) < n
 }
 
 // The row of p: empty, or the parent is above p and below n and the rest comes in order in the parent's row. A row with no rest is done with
 // first, so that the others need not ask for one.
-fn row_holds(n: usize, first: &[u32], row_heads: &[u32], p: Position) -> bool
-    requires { (p.0 < n) × (length first.now ≡ suc n) × (RowsFrom n (graph first.now row_heads.now) (p.0 + 1)) }
-    ensures { result ≡ row_holds n (graph first.now row_heads.now) p.0 }
+fn row_holds(n: usize, graph: &Graph, p: Position) -> bool
+    requires { (p.0 < n) × (length graph.now.first.now ≡ suc n) × (RowsFrom n (lent_graph graph.now) (p.0 + 1)) }
+    ensures { result ≡ row_holds n (lent_graph graph.now) p.0 }
 {
+    // Not by `graph.places`, which does not tell that a start leaves room for one more: the test for a rest came second then, and was slower.
     let row = p.0 as usize;
-    let from = wide(first[row]);
-    let to = wide(first[row + 1]);
+    let from = graph.first[row] as usize;
+    let to = graph.first[row + 1] as usize;
     let rest = from + 1;
     if to <= rest {
         if to <= from {
             return from == to;
         }
-        return is_above(n, p, Position(row_heads[from]));
+        return is_above(n, p, Position(graph.heads[from]));
     }
-    let parent = Position(row_heads[from]);
+    let parent = Position(graph.heads[from]);
     if !is_above(n, p, parent) {
         return false;
     }
-    let above = parent.0 as usize;
-    let low = wide(first[above]);
-    let high = wide(first[above + 1]);
-    comes_in(row_heads, rest, to, low, high)
+    let above = graph.places(parent.0 as usize);
+    comes_in(graph.heads, rest, to, above.start, above.end)
 }
 
-// first and row_heads are the rows of a hierarchy of n positions: from the last row down, so that a parent's row is known to hold.
-fn rows_hold(n: usize, first: &[u32], row_heads: &[u32]) -> bool
+// The graph's lists are the rows of a hierarchy of n positions: from the last row down, so that a parent's row is known to hold.
+fn rows_hold(n: usize, graph: &Graph) -> bool
     requires { n ≤ 4096 }
-    ensures { result ≡ rows_hold n (graph first.now row_heads.now) }
+    ensures { result ≡ rows_hold n (lent_graph graph.now) }
 {
-    if first.len() == 0 {
+    let first = graph.first;
+    if first.len() != n + 1 || first[0] != 0 || graph.heads.len() < first[n] as usize {
         return false;
     }
-    if first.len() - 1 != n {
-        return false;
-    }
-    if first[0] != 0 {
-        return false;
-    }
-    if row_heads.len() < wide(first[n]) {
-        return false;
-    }
-    let mut p = n as u32;
-    while 0 < p {
-        p -= 1;
-        if !row_holds(n, first, row_heads, Position(p)) {
+    for p in (0..n).rev() {
+        if !row_holds(n, graph, Position(p as u32)) {
             return false;
         }
     }
@@ -186,18 +155,17 @@ fn rows_hold(n: usize, first: &[u32], row_heads: &[u32]) -> bool
 
 // 4 and 7 together: where the rank list gives back every position both the order and the rank list are right; only else is 4
 // looked for.
-pub fn check_graph(order: &[u32], rank: &[u32], first: &[u32], row_heads: &[u32]) -> Check
+#[tactic(auto, using(crate::proofs::IsHierarchy::decided))]
+pub fn check_graph(order: &[u32], rank: &[u32], graph: &Graph) -> Result<(), Refusal>
     requires { length order.now ≤ 4096 }
-    ensures { verdict result ≡ first_failure (check4 order.now ∷ check7 order.now rank.now (graph first.now row_heads.now) ∷ []) }
+    ensures { verdict result ≡ first_failure (check4 order.now ∷ check7 order.now rank.now (lent_graph graph.now) ∷ []) }
 {
     if !ranks_order(order, rank) {
-        if let Check::Fails(fault) = check_order(order) {
-            return Check::Fails(fault);
-        }
-        return Check::Fails(Refusal::NotAHierarchy);
+        check_order(order)?;
+        return Err(Refusal::NotAHierarchy);
     }
-    if !rows_hold(order.len(), first, row_heads) {
-        return Check::Fails(Refusal::NotAHierarchy);
+    if !rows_hold(order.len(), graph) {
+        return Err(Refusal::NotAHierarchy);
     }
-    Check::Passes
+    Ok(())
 }

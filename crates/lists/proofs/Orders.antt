@@ -80,9 +80,6 @@ pub record Ranking (order : List ℕ) (p : ℕ) (rank : List ℕ) : Type 0 where
   pub long : length rank ≡ length order
   pub there : (q : ℕ) → q < p → get_or rank (get_or order q 0) 0 ≡ q
 
-pub ranking_start : (order rank : List ℕ) → length rank ≡ length order → Ranking order 0 rank
-ranking_start order rank e = record { within = omega arith; long = e; there = λ q h. absurd (omega arith) }
-
 pub ranking_more : {order : List ℕ} {p : ℕ} {rank : List ℕ} (j : ℕ) → Ordered order → Ranking order p rank → p < length order → j ≡ get_or order p 0
     → Ranking order (p + 1) (set rank j p)
 ranking_more {order} {p} {rank} j o r h e =

@@ -14,14 +14,15 @@ use Rattle.rules.specs.Words.{total, how_many}
 use Rattle.rules.specs.Graph.{Graph}
 use Rattle.rules.specs.Hierarchy.{EdgeCosts}
 use Rattle.theory.specs.Rows.{InRow, Lists, count}
-use Rattle.theory.proofs.Words.{either, split, and_i, and_l, and_r, or_l, or_r, or_e, some_i, some_e, eqb_e, eqb_i, leb_e, leb_i}
+use Rattle.theory.proofs.Words.{either, split, true_holds, and_i, and_l, and_r, or_l, or_r, or_e, some_i, some_e, eqb_e, eqb_i, leb_e, leb_i}
 use Rattle.theory.proofs.Rows.{in_heads, in_row_i, next_row}
 use Rattle.theory.proofs.Totals.{many_same, many_more, many_none, many_le}
-use Rattle.lists.specs.Lent.{chosen}
+use Rattle.rules.specs.Lent.{chosen}
 use Rattle.turns.specs.Edges.{Stretch, at_most}
 use Rattle.turns.proofs.Stored.{Stored, stored}
 use Rattle.turns.proofs.Stretches.{stretch_row, stretch_part}
 use Rattle.reconsider.specs.Marks.{says}
+use Rattle.reconsider.proofs.Said.{says_no}
 use Rattle.look.specs.Looking.{Seats, Costed, way_to, taken, among, Looked}
 
 -- ---- how many
@@ -63,7 +64,7 @@ among_e heads a b y t =
     (k, leb_e a k (and_l (leb a k) (eqb (get_or heads k 0) y) u), l, eqb_e (get_or heads k 0) y (and_r (leb a k) (eqb (get_or heads k 0) y) u))
 
 -- y is counted
-abbrev counted : (heads marks : List ℕ) (a b y : ℕ) → Bool
+abbrev counted : (heads : List ℕ) (marks : List Bool) (a b y : ℕ) → Bool
 counted heads marks a b y = among heads a b y && says marks y
 
 -- ---- two stretches, one behind the other
@@ -92,7 +93,7 @@ module _ {heads : List ℕ} {a b c : ℕ} (S : Stretch heads a c) (ab : a ≤ b)
       (λ u. inr (among_i heads b c k y (ltb-false k b u) l e))
 
   -- so those counted in both are those of the one and those of the other
-  both : (marks : List ℕ) → how_many (counted heads marks a c) 4096 ≡ how_many (counted heads marks a b) 4096 + how_many (counted heads marks b c) 4096
+  both : (marks : List Bool) → how_many (counted heads marks a c) 4096 ≡ how_many (counted heads marks a b) 4096 + how_many (counted heads marks b c) 4096
   both marks =
       let p = among heads a b in
       let q = among heads b c in
@@ -126,7 +127,7 @@ seat_in S Down = S.down_long
 pub costed_part : {C : EdgeCosts} {a b : ℕ} → Costed C b → a ≤ b → Costed C a
 costed_part K l = record { up_in = omega (arith, K.up_in); down_in = omega (arith, K.down_in) }
 
-module _ {heads marks : List ℕ} {C : EdgeCosts} {rise fall : ℕ} where
+module _ {heads : List ℕ} {marks : List Bool} {C : EdgeCosts} {rise fall : ℕ} where
   -- where nothing is marked there is none
   pub looked_none : {a b s : ℕ} {D : EdgeCosts} → Seats D → ((k : ℕ) → a ≤ k → k < b → T (says marks (get_or heads k 0)) → ⊥)
       → Looked heads C marks rise fall a b D D s s
@@ -145,22 +146,25 @@ module _ {heads marks : List ℕ} {C : EdgeCosts} {rise fall : ℕ} where
       }
 
   -- none to what stands at place j, if that is not marked
-  pub looked_past : {j y s : ℕ} {D : EdgeCosts} → Seats D → y ≡ get_or heads j 0 → (T (says marks y) → ⊥) → Looked heads C marks rise fall j (j + 1) D D s s
-  looked_past {j} S ey n =
-      looked_none S (λ k h l t. let f : k ≡ j = omega arith in n (subst (λ v. T (says marks v)) (ap (λ k. get_or heads k 0) f ∙ sym ey) t))
+  pub looked_past : {j s : ℕ} {D : EdgeCosts} → Seats D → get_or marks (get_or heads j 0) false ≡ false → Looked heads C marks rise fall j (j + 1) D D s s
+  looked_past {j} S e =
+      looked_none S (λ k h l t.
+      let f : k ≡ j = omega arith in says_no marks (get_or heads j 0) e (subst (λ v. T (says marks (get_or heads v 0))) f t))
 
   -- the one to what stands at place j, if that is marked
-  pub looked_one : {j y s : ℕ} {D D' : EdgeCosts} → Seats D → y ≡ get_or heads j 0 → y < 4096 → T (says marks y) → D' ≡ taken C rise fall j y D
-      → Looked heads C marks rise fall j (j + 1) D D' s (s + 1)
-  looked_one {j} {y} {s} {D} {D'} S ey seat m e =
+  pub looked_one : {j s : ℕ} {D D' : EdgeCosts} → Seats D → get_or heads j 0 < 4096 → get_or marks (get_or heads j 0) false ≡ true
+      → D' ≡ taken C rise fall j (get_or heads j 0) D → Looked heads C marks rise fall j (j + 1) D D' s (s + 1)
+  looked_one {j} {s} {D} {D'} S seat me e =
+      let y = get_or heads j 0 in
+      let m = true_holds (says marks y) me in
       let o : (d : Direction) → Stored (chosen d D) y (min (get_or (chosen d D) y 0) (way_to C rise fall d j)) (chosen d D') =
       λ d. stored (chosen d D) (chosen d D') y _ (taken_is C D D' rise fall j y e d) (omega (arith, seat_in S d)) in
-      let here : T (among heads j (j + 1) y) = among_i heads j (j + 1) j y (omega arith) (omega arith) (sym ey) in
+      let here : T (among heads j (j + 1) y) = among_i heads j (j + 1) j y (omega arith) (omega arith) refl in
       let only : (w : ℕ) → T (among heads j (j + 1) w) → w ≡ y =
-      λ w t. let (k, h, l, f) = among_e heads j (j + 1) w t in let g : k ≡ j = omega arith in sym f ∙ ap (λ k. get_or heads k 0) g ∙ sym ey in
+      λ w t. let (k, h, l, f) = among_e heads j (j + 1) w t in let g : k ≡ j = omega arith in sym f ∙ ap (λ k. get_or heads k 0) g in
       record {
         seats = record { up_long = (o Up).long ∙ S.up_long; down_long = (o Down).long ∙ S.down_long };
-        hit = λ d k h l t. let f : k ≡ j = omega arith in rw (f, sym ey) (o d).here;
+        hit = λ d k h l t. let f : k ≡ j = omega arith in rw f (o d).here;
         miss = λ d w n. (o d).off w (λ f. n (subst (λ v. T (among heads j (j + 1) v)) (sym f) here) (subst (λ v. T (says marks v)) (sym f) m));
         number =
             omega (
@@ -210,9 +214,10 @@ module _ {heads marks : List ℕ} {C : EdgeCosts} {rise fall : ℕ} where
 -- ---- the row
 
 -- what lies behind a place of a row is a stretch, and both lists of costs go up to its end
-pub row_laid : {G : Graph} {C : EdgeCosts} {z i end : ℕ} → Lists G C → z < count G.first → InRow G z i → end ≡ get_or G.first (z + 1) 0
-    → (i < end) × Stretch G.heads (i + 1) end × Costed C end
-row_laid {G} {C} {z} {i} {end} L under r e =
+pub row_laid : {G : Graph} {C : EdgeCosts} {z i : ℕ} → Lists G C → z < count G.first → InRow G z i
+    → let end = get_or G.first (z + 1) 0 in (i < end) × Stretch G.heads (i + 1) end × Costed C end
+row_laid {G} {C} {z} {i} L under r =
+    let end = get_or G.first (z + 1) 0 in
     let l : i < end = omega (arith, r.high, next_row G z) in
     let a = (in_heads L.rows z (end - 1) under (in_row_i G z (end - 1) (omega (arith, r.low)) (omega arith))).0 in (
       l,

@@ -16,10 +16,10 @@ use Rattle.rules.specs.Graph.{Graph}
 use Rattle.rules.specs.Hierarchy.{EdgeCosts, linked, along}
 use Rattle.rules.specs.Customised.{over}
 use Rattle.rules.specs.Changed.{corner}
-use Rattle.theory.specs.Rows.{InRow, Rows, Lists, count}
+use Rattle.theory.specs.Rows.{InRow, Lists, count}
 use Rattle.theory.proofs.Words.{either, split, true_holds, holds_true, true_false, same_or_not, same_test, and_i, and_l, and_r, some_i, some_e, eqb_e, eqb_i, ltb_i, ltb_e, cond_true, cond_false, least_start, least_same, least_top, least_once}
 use Rattle.theory.proofs.Rows.{linked_e, linked_i, in_row_i, next_row, before}
-use Rattle.lists.specs.Lent.{chosen}
+use Rattle.rules.specs.Lent.{chosen}
 use Rattle.turns.specs.Edges.{At}
 use Rattle.turns.specs.Met.{Met, AllMet}
 use Rattle.reconsider.specs.Marks.{says}
@@ -89,7 +89,7 @@ over_is {G} {C} {cost} {z} {i} {b} Down x y A B ei eb jx jy =
     (sym (cond_true (corner (linked G) y x z) (sum (cost y z) (cost z x)) closed (and_i (linked G z y) (linked G z x) jy jx)))
 
 -- a row that has no edge of x with both ends has no triangle
-corner_none : (joined : ℕ → ℕ → Bool) (marks : List ℕ) (x z : ℕ) → ((y : ℕ) → x < y → T (corner joined x y z) → ⊥) → over_corner joined marks x z ≡ 0
+corner_none : (joined : ℕ → ℕ → Bool) (marks : List Bool) (x z : ℕ) → ((y : ℕ) → x < y → T (corner joined x y z) → ⊥) → over_corner joined marks x z ≡ 0
 unfolding over_corner
 corner_none joined marks x z n =
     many_none (λ y. corner joined x y z && (ltb x y && says marks y)) 4096
@@ -108,7 +108,7 @@ least_more f g top n z v v' l h t e ev (inr s) =
 -- ---- the walk
 
 -- the first t rows met have given what they have: r triangles are counted by then, where s were before
-pub record Walk (G : Graph) (C : EdgeCosts) (marks : List ℕ) (x m : ℕ) (met : List ℕ) (D₀ : EdgeCosts) (s t : ℕ) (D : EdgeCosts) (r : ℕ) : Type 0 where
+pub record Walk (G : Graph) (C : EdgeCosts) (marks : List Bool) (x m : ℕ) (met : List ℕ) (D₀ : EdgeCosts) (s t : ℕ) (D : EdgeCosts) (r : ℕ) : Type 0 where
   pub within : t ≤ m
   pub seats : Seats D
   pub lowest : (d : Direction) (cost : ℕ → ℕ → ℕ) → Below G cost x C → (k : ℕ) → InRow G x k → T (says marks (get_or G.heads k 0))
@@ -118,7 +118,7 @@ pub record Walk (G : Graph) (C : EdgeCosts) (marks : List ℕ) (x m : ℕ) (met 
   pub number : r ≡ s + total (met_only met t (over_corner (linked G) marks x) 0) x
   pub few : r ≤ s + 4096 * t
 
-pub walk_start : {G : Graph} {C : EdgeCosts} {marks : List ℕ} {x m : ℕ} {met : List ℕ} {D : EdgeCosts} {s : ℕ} → Seats D
+pub walk_start : {G : Graph} {C : EdgeCosts} {marks : List Bool} {x m : ℕ} {met : List ℕ} {D : EdgeCosts} {s : ℕ} → Seats D
     → Walk G C marks x m met D s 0 D s
 walk_start {G} {marks = marks} {x} {met = met} {D} S =
     record {
@@ -135,14 +135,11 @@ walk_start {G} {marks = marks} {x} {met = met} {D} S =
     }
 
 module _ {G : Graph} {C : EdgeCosts} {x m : ℕ} {met at : List ℕ} (L : Lists G C) (under : x < count G.first) (M : Met G x m met at) where
-  abbrev R : Rows (count G.first) G
-  R = L.rows
-
   abbrev J : ℕ → ℕ → Bool
   J = linked G
 
   -- all that are met have given what they have: and no other row has x and anything behind it
-  pub walk_end : {marks : List ℕ} {D₀ D : EdgeCosts} {s t r : ℕ} → AllMet G x m met → m ≤ t → Walk G C marks x m met D₀ s t D r
+  pub walk_end : {marks : List Bool} {D₀ D : EdgeCosts} {s t r : ℕ} → AllMet G x m met → m ≤ t → Walk G C marks x m met D₀ s t D r
       → LookedRow G C marks x D₀ D s r
   walk_end {marks} {D₀} {D} {t = t} A h K =
       record {
@@ -152,7 +149,7 @@ module _ {G : Graph} {C : EdgeCosts} {x m : ℕ} {met at : List ℕ} (L : Lists 
             let f = along d (over J cost) x y in
             K.lowest d cost B k r s u
             ∙ least_same (met_only met t f closed) f (get_or (chosen d D₀) y 0) x
-            (λ w l. all f closed w l (λ n. over_none d J cost x y w (n y (R.above x k under r))));
+            (λ w l. all f closed w l (λ n. over_none d J cost x y w (n y (L.rows.above x k under r))));
         number =
             let f = over_corner J marks x in
             omega (arith, K.number, total_same (met_only met t f 0) f x (λ w l. all f 0 w l (corner_none J marks x w)));
@@ -163,15 +160,15 @@ module _ {G : Graph} {C : EdgeCosts} {x m : ℕ} {met at : List ℕ} (L : Lists 
       all f other w l n =
           either (split (J w x))
           (λ e.
-          let (a, r, q) = linked_e R w x (true_holds (J w x) e) l in
+          let (a, r, q) = linked_e L.rows w x (true_holds (J w x) e) l in
           either (split (ltb (a + 1) (get_or G.first (w + 1) 0)))
           (λ c.
           let (s, b, g) = A.all w a l r (in_row_i G w (a + 1) (omega (arith, r.low)) (ltb-true (a + 1) (get_or G.first (w + 1) 0) c)) q in
           cond_true (met_by met t w) (f w) other
           (some_i (λ s. eqb (get_or met s 0) w) t s (omega arith) (eqb_i (get_or met s 0) w g)))
           (λ c. none (λ y h v.
-          let (b, p, g) = linked_e R w y (and_r (J w x) (J w y) v) (omega arith) in
-          let a<b = before G w a b (λ i j. R.climb w i j (omega arith)) r p (omega arith) in
+          let (b, p, g) = linked_e L.rows w y (and_r (J w x) (J w y) v) (omega arith) in
+          let a<b = before G w a b (λ i j. L.rows.climb w i j (omega arith)) r p (omega arith) in
           omega (arith, p.high, next_row G w, ltb-false (a + 1) (get_or G.first (w + 1) 0) c))))
           (λ e. none (λ y h v. true_false (sym (holds_true (J w x) (and_l (J w x) (J w y) v)) ∙ e)))
         where
@@ -180,19 +177,24 @@ module _ {G : Graph} {C : EdgeCosts} {x m : ℕ} {met at : List ℕ} (L : Lists 
 
   -- ---- the row that is met next
 
-  module _ (t z : ℕ) (h : t < m) (ez : z ≡ get_or met t 0) where
+  module _ (t : ℕ) (h : t < m) where
+    abbrev z : ℕ
+    z = get_or met t 0
+
+    abbrev i : ℕ
+    i = get_or at t 0
+
     -- it was not met before
     fresh : (f : ℕ → ℕ) (other : ℕ) → met_only met t f other z ≡ other
     fresh f other =
         cond_false (met_by met t z) (f z) other
         (λ u.
         let (s, l, q) = some_e (λ s. eqb (get_or met s 0) z) t u in
-        M.once s t l h (eqb_e (get_or met s 0) z q ∙ ez))
+        M.once s t l h (eqb_e (get_or met s 0) z q))
 
-  module _ (t z i : ℕ) (h : t < m) (ez : z ≡ get_or met t 0) (ei : i ≡ get_or at t 0) where
     -- it is below x, and has x at place i
     meets : (z < x) × InRow G z i × (get_or G.heads i 0 ≡ x)
-    meets = rw (ez, ei) (M.under t h, M.row t h, M.entry t h)
+    meets = (M.under t h, M.row t h, M.entry t h)
 
     pub next_row_in : (z < count G.first) × InRow G z i
     next_row_in = (omega (arith, meets.0), meets.1)
@@ -201,23 +203,23 @@ module _ {G : Graph} {C : EdgeCosts} {x m : ℕ} {met at : List ℕ} (L : Lists 
     zn = next_row_in.0
 
     jx : T (J z x)
-    jx = linked_i R z i x zn meets.1 meets.2
+    jx = linked_i L.rows z i x zn meets.1 meets.2
 
     -- what it has behind x
     behind : (y : ℕ) → x < y → T (J z y) → (b : ℕ) × (i < b) × (b < get_or G.first (z + 1) 0) × InRow G z b × (get_or G.heads b 0 ≡ y)
     behind y l u =
-        let (b, r, d) = linked_e R z y u (omega (arith, meets.0)) in
+        let (b, r, d) = linked_e L.rows z y u (omega (arith, meets.0)) in
         let (a, q, e) = meets in
-        (b, before G z i b (λ i j. R.climb z i j zn) q r (omega arith), omega (arith, r.high, next_row G z), r, d)
+        (b, before G z i b (λ i j. L.rows.climb z i j zn) q r (omega arith), omega (arith, r.high, next_row G z), r, d)
 
     ahead : (y : ℕ) → T (among G.heads (i + 1) (get_or G.first (z + 1) 0) y) → (x < y) × T (J z y)
     ahead y u =
         let (b, g, l, d) = among_e G.heads (i + 1) (get_or G.first (z + 1) 0) y u in
         let r = in_row_i G z b (omega (arith, meets.1.low)) l in
-        (omega (arith, R.climb z i b zn meets.1 r (omega arith), meets.2), linked_i R z b y zn r d)
+        (omega (arith, L.rows.climb z i b zn meets.1 r (omega arith), meets.2), linked_i L.rows z b y zn r d)
 
     -- how many triangles it has
-    corner_is : (marks : List ℕ)
+    corner_is : (marks : List Bool)
         → how_many (λ y. among G.heads (i + 1) (get_or G.first (z + 1) 0) y && says marks y) 4096 ≡ over_corner J marks x z
     unfolding over_corner
     corner_is marks =
@@ -235,7 +237,7 @@ module _ {G : Graph} {C : EdgeCosts} {x m : ℕ} {met at : List ℕ} (L : Lists 
               and_i (among G.heads (i + 1) e y) (says marks y) (among_i G.heads (i + 1) e b y (omega arith) be eb) (and_r (ltb x y) (says marks y) v),
         ))
 
-    pub walk_more : {marks : List ℕ} {D₀ D D' : EdgeCosts} {s r r' : ℕ} → Walk G C marks x m met D₀ s t D r
+    pub walk_more : {marks : List Bool} {D₀ D D' : EdgeCosts} {s r r' : ℕ} → Walk G C marks x m met D₀ s t D r
         → Looked G.heads C marks (get_or C.up i 0) (get_or C.down i 0) (i + 1) (get_or G.first (z + 1) 0) D D' r r'
         → Walk G C marks x m met D₀ s (t + 1) D' r'
     walk_more {marks} {D₀} {D} {D'} K S =
@@ -245,14 +247,14 @@ module _ {G : Graph} {C : EdgeCosts} {x m : ℕ} {met at : List ℕ} (L : Lists 
           lowest = λ d cost B k rk u g.
               let y = get_or G.heads k 0 in
               let f = along d (over J cost) x y in
-              let now = met_now met t f closed z ez in
+              let now = met_now met t f closed z refl in
               least_more (met_only met t f closed) (met_only met (t + 1) f closed) (get_or (chosen d D₀) y 0) x z
-              (get_or (chosen d D) y 0) (get_or (chosen d D') y 0) meets.0 (fresh t z h ez f closed) g
-              (λ w n. met_same met t f closed z w ez n) (K.lowest d cost B k rk u g)
+              (get_or (chosen d D) y 0) (get_or (chosen d D') y 0) meets.0 (fresh f closed) g
+              (λ w n. met_same met t f closed z w refl n) (K.lowest d cost B k rk u g)
               (either (split (J z y))
               (λ e.
               let jy = true_holds (J z y) e in
-              let (b, ib, be, rb, eb) = behind y (R.above x k under rk) jy in
+              let (b, ib, be, rb, eb) = behind y (L.rows.above x k under rk) jy in
               let hit = S.hit d b (omega arith) be (subst (λ v. T (says marks v)) (sym eb) u) in
               let o = over_is d x y (B.there z i meets.0 meets.1) (B.there z b meets.0 rb) meets.2 eb jx jy in
               inl (rw now (rw (eb, o) at hit)))
@@ -264,8 +266,8 @@ module _ {G : Graph} {C : EdgeCosts} {x m : ℕ} {met at : List ℕ} (L : Lists 
               )));
           number =
               let f = over_corner J marks x in
-              let a = total_once (met_only met t f 0) (met_only met (t + 1) f 0) x z (f z) meets.0 (λ w n. met_same met t f 0 z w ez n)
-              (omega (arith, fresh t z h ez f 0, met_now met t f 0 z ez)) in
+              let a = total_once (met_only met t f 0) (met_only met (t + 1) f 0) x z (f z) meets.0 (λ w n. met_same met t f 0 z w refl n)
+              (omega (arith, fresh f 0, met_now met t f 0 z refl)) in
               omega (arith, K.number, S.number, corner_is marks);
           few = omega (arith, K.few, looked_few S);
         }

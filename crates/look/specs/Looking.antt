@@ -1,6 +1,7 @@
 -- The lower triangles of the marked edges of a row: what is taken from each, and how many there are. What an edge of the row of x gets is
 -- gathered at its higher end, D for both directions. Assumes nothing.
 use Rattle.std.specs.Prelude.{ℕ, ◌+◌, ◌≤◌, ◌<◌, min, ◌≡◌, Bool, ◌&&◌, List, T, eqb, ltb, leb, length, get_or}
+use Rattle.look.specs.declared.Row as scratch
 use Rattle.rules.specs.declared.Direction.{Direction}
 use Rattle.rules.specs.declared.Direction.TheVariants.{Up, Down}
 use Rattle.rules.specs.Words.{some, least, total, how_many}
@@ -10,9 +11,13 @@ use Rattle.rules.specs.Hierarchy.{EdgeCosts, edge_costs, linked, along}
 use Rattle.rules.specs.Customised.{over}
 use Rattle.rules.specs.Changed.{corner}
 use Rattle.theory.specs.Rows.{InRow}
-use Rattle.lists.specs.Lent.{chosen}
+use Rattle.rules.specs.Lent.{chosen}
 use Rattle.turns.specs.Edges.{At, at_most}
 use Rattle.reconsider.specs.Marks.{says}
+
+-- what is gathered, in both directions
+abbrev pub gathered : scratch.Row → EdgeCosts
+gathered row = edge_costs row.ups row.downs
 
 -- a place for each position, in both directions
 pub record Seats (D : EdgeCosts) : Type 0 where
@@ -42,7 +47,7 @@ pub record Costed (C : EdgeCosts) (b : ℕ) : Type 0 where
 
 -- the lower triangles over one row, to each entry from place a up to place b, from one whose edge costs rise and fall: r are counted by then,
 -- where s were before
-pub record Looked (heads : List ℕ) (C : EdgeCosts) (marks : List ℕ) (rise fall a b : ℕ) (D D' : EdgeCosts) (s r : ℕ) : Type 0 where
+pub record Looked (heads : List ℕ) (C : EdgeCosts) (marks : List Bool) (rise fall a b : ℕ) (D D' : EdgeCosts) (s r : ℕ) : Type 0 where
   pub seats : Seats D'
   pub hit : (d : Direction) (k : ℕ) → a ≤ k → k < b → T (says marks (get_or heads k 0))
       → get_or (chosen d D') (get_or heads k 0) 0 ≡ min (get_or (chosen d D) (get_or heads k 0) 0) (way_to C rise fall d k)
@@ -54,13 +59,13 @@ pub record Below (G : Graph) (cost : ℕ → ℕ → ℕ) (x : ℕ) (C : EdgeCos
   pub there : (p k : ℕ) → p < x → InRow G p k → At G C cost p k
 
 -- how many lower triangles over z the marked edges of the row of x have
-unfoldable pub over_corner : (joined : ℕ → ℕ → Bool) (marks : List ℕ) (x z : ℕ) → ℕ
-unfolding how_many says
+unfoldable pub over_corner : (joined : ℕ → ℕ → Bool) (marks : List Bool) (x z : ℕ) → ℕ
+unfolding how_many
 over_corner joined marks x z = how_many (λ y. corner joined x y z && (ltb x y && says marks y)) 4096
 
 -- all lower triangles of the marked edges of the row of x: each edge has the least of what stood there and of what goes over a lower position; r
 -- are counted by then, where s were before
-pub record LookedRow (G : Graph) (C : EdgeCosts) (marks : List ℕ) (x : ℕ) (D D' : EdgeCosts) (s r : ℕ) : Type 0 where
+pub record LookedRow (G : Graph) (C : EdgeCosts) (marks : List Bool) (x : ℕ) (D D' : EdgeCosts) (s r : ℕ) : Type 0 where
   pub seats : Seats D'
   pub lowest : (d : Direction) (cost : ℕ → ℕ → ℕ) → Below G cost x C → (k : ℕ) → InRow G x k → T (says marks (get_or G.heads k 0))
       → get_or (chosen d D) (get_or G.heads k 0) 0 ≤ closed

@@ -1,5 +1,8 @@
--- Bytes written one after the other, and numbers in digits. Assumes nothing.
-use Prim.Native.Nat.{ℕ, zero, suc, ◌+◌, ◌*◌, ◌/◌, ◌%◌, ◌^◌, ◌≤◌, ◌<◌}
+-- Numbers in digits, and numbers behind spaces. Assumes nothing.
+use Rattle.std.proofs.Common.{Option, Result, Ok}
+use Rattle.rules.specs.declared.Drive.{Drive}
+use Rattle.rules.specs.declared.Refusal.{Refusal}
+use Prim.Native.Nat.{ℕ, zero, suc, ◌+◌, ◌/◌, ◌%◌, ◌^◌, ◌≤◌, ◌<◌}
 use mathlib.Core.Path.{◌≡◌, refl, sym, ap, ◌∙◌}
 use mathlib.Core.Bool.{Bool, true, false}
 use mathlib.Core.List.{List, [], ◌∷◌, ◌++◌, map, map-append, append-nil, append_assoc}
@@ -7,37 +10,14 @@ use native.Mathlib.Omega.{arith}
 use native.Mathlib.Numerals.{add-one}
 use native.Mathlib.Nat.{pow-suc}
 use lib.Dec.{ltb}
-use lib.ListN.{length, get_or, take, drop, set, length-append, length-set}
-use lib.Seq.{take_all, take-suc, take-suc-set, drop-drop, drop-set-lt}
+use lib.ListN.{length, get_or, take, length-append, length-take}
+use lib.Seq.{take-suc}
 use borrow.Author.Tests.{lt-ltb, le-ltb, ltb-false}
 use Rattle.text.specs.Bytes.{lf, space, decimal_within, decimal}
-use Rattle.text.specs.Program.{spaced}
-use Rattle.print.specs.Written.{Wrote, ArcsShort, arcs_written, drive_written}
-
--- ---- bytes
-
--- nothing, and one byte
-pub wrote_none : (l : List ℕ) (at : ℕ) → Wrote l at [] l at
-wrote_none l at = record { says = rw append-nil refl; long = refl; behind = omega arith; rest = refl }
-
-pub wrote_byte : (l : List ℕ) (at b : ℕ) → at < length l → Wrote l at (b ∷ []) (set l at b) (at + 1)
-wrote_byte l at b h = record {
-  says = rw add-one (take-suc-set l at b h);
-  long = length-set l at b;
-  behind = refl;
-  rest = drop-set-lt (at + 1) l at b (omega arith);
-}
-
--- one after the other
-pub wrote_then : (l : List ℕ) (at : ℕ) (x m : List ℕ) (p : ℕ) (y n : List ℕ) (q : ℕ) → Wrote l at x m p → Wrote m p y n q → Wrote l at (x ++ y) n q
-wrote_then l at x m p y n q a b = record {
-  says = b.says ∙ rw (a.says, append_assoc (take at l) x y) refl;
-  long = b.long ∙ a.long;
-  behind = rw (length-append x y) (omega arith);
-  rest =
-      let e : q ≡ p + length y = b.behind in
-      b.rest ∙ (rw e (sym (drop-drop (length y) p m) ∙ ap (drop (length y)) a.rest ∙ drop-drop (length y) p l));
-}
+use Rattle.rules.specs.Replies.{drive, no_walk, refused}
+use Rattle.rules.specs.Calls.{route_left}
+use Rattle.text.specs.Program.{spaced, edges_line, refused_line, reply_line}
+use Rattle.print.specs.Written.{drive_written}
 
 -- ---- digits
 
@@ -105,53 +85,87 @@ unfolding spaced
 spaced_append [] ys = refl
 spaced_append (x ∷ xs) ys = rw (spaced_append xs ys, append_assoc ((space ∷ []) ++ decimal x) (spaced xs) (spaced ys)) refl
 
--- the arc numbers, none and one more
-pub arcs_none : (route : List ℕ) → arcs_written route 0 ≡ []
-unfolding arcs_written
-arcs_none route = refl
-
-pub arcs_more : (route : List ℕ) (i : ℕ) → i < length route → arcs_written route (i + 1) ≡ arcs_written route i ++ spaced ((get_or route i 0 + 1) ∷ [])
-unfolding arcs_written
-arcs_more route i h =
-    rw (add-one i, add-one (get_or route i 0), take-suc route i 0 h, map-append suc (take i route) (get_or route i 0 ∷ []), spaced_append (map suc (take i route)) (suc (get_or route i 0) ∷ [])) refl
+-- one arc number more, counted from 1
+pub arcs_more : (arcs : List ℕ) (i : ℕ) → i < length arcs → spaced (map suc (take (i + 1) arcs)) ≡ spaced (map suc (take i arcs)) ++ spaced ((get_or arcs i 0 + 1) ∷ [])
+arcs_more arcs i h =
+    rw (add-one i, add-one (get_or arcs i 0), take-suc arcs i 0 h, map-append suc (take i arcs) (get_or arcs i 0 ∷ []), spaced_append (map suc (take i arcs)) (suc (get_or arcs i 0) ∷ [])) refl
 
 spaced_three : (x y : ℕ) (zs : List ℕ) → spaced (x ∷ y ∷ zs) ≡ spaced (x ∷ []) ++ spaced (y ∷ []) ++ spaced zs
 spaced_three x y zs = spaced_append (x ∷ y ∷ []) zs ∙ ap (λ p. p ++ spaced zs) (spaced_append (x ∷ []) (y ∷ []))
 
 -- what follows the two junctions of a drive, in the order in which it is written
-pub drive_is : (d k : ℕ) (route : List ℕ) → drive_written d k route ≡ spaced (d ∷ []) ++ spaced (k ∷ []) ++ arcs_written route k ++ (lf ∷ [])
-unfolding drive_written arcs_written
-drive_is d k route = ap (λ b. b ++ (lf ∷ [])) (spaced_three d k (map suc (take k route)))
+pub drive_is : (d : ℕ) (arcs : List ℕ) → drive_written d arcs ≡ spaced (d ∷ []) ++ spaced (length arcs ∷ []) ++ spaced (map suc arcs) ++ (lf ∷ [])
+unfolding drive_written
+drive_is d arcs = ap (λ b. b ++ (lf ∷ [])) (spaced_three d (length arcs) (map suc arcs))
 
--- ---- bytes of a word, one more at a time
+-- ---- on a page that has room
 
--- none, one more, all
-pub bytes_none : (l : List ℕ) (at : ℕ) (bytes : List ℕ) → Wrote l at (take 0 bytes) l (at + 0)
-bytes_none l at bytes = let e : at + 0 ≡ at = omega arith in rw e (wrote_none l at)
+-- the answer's lines, part by part
+pub edges_parts : (page : List ℕ) (e : ℕ) → page ++ edges_line e ≡ page ++ (101 ∷ 100 ∷ 103 ∷ 101 ∷ 115 ∷ space ∷ []) ++ decimal e ++ (lf ∷ [])
+unfolding edges_line
+edges_parts page e = simp append_assoc
 
-pub bytes_more : (l : List ℕ) (at : ℕ) (bytes m : List ℕ) (k : ℕ) → Wrote l at (take k bytes) m (at + k) → k < length bytes → at + k < length l → Wrote l at (take (k + 1) bytes) (set m (at + k) (get_or bytes k 0)) (at + (k + 1))
-bytes_more l at bytes m k w h g =
-    let e : at + (k + 1) ≡ at + k + 1 = omega arith in
-    rw (e, add-one k, take-suc bytes k 0 h)
-    (wrote_then l at (take k bytes) m (at + k) (get_or bytes k 0 ∷ []) (set m (at + k) (get_or bytes k 0)) (at + k + 1) w
-    (wrote_byte m (at + k) (get_or bytes k 0) (omega (arith, w.long))))
+pub refused_parts : (page : List ℕ) (n : ℕ) → page ++ refused_line n ≡ page ++ (114 ∷ 101 ∷ 102 ∷ 117 ∷ 115 ∷ 101 ∷ 100 ∷ space ∷ []) ++ decimal n ++ (lf ∷ [])
+unfolding refused_line
+refused_parts page n = simp append_assoc
 
-pub bytes_all : (l : List ℕ) (at : ℕ) (bytes m : List ℕ) (k : ℕ) → Wrote l at (take k bytes) m (at + k) → length bytes ≤ k → Wrote l at bytes m (at + k)
-bytes_all l at bytes m k w h = rw (take_all k bytes h) at w
+pub spaced_parts : (page : List ℕ) (x : ℕ) → page ++ spaced (x ∷ []) ≡ page ++ (space ∷ []) ++ decimal x
+spaced_parts page x = rw (spaced_one x) (simp append_assoc)
 
--- a number ends within twenty places
-pub number_ends : (l : List ℕ) (at x : ℕ) (m : List ℕ) (r : ℕ) → x < 18446744073709551616 → Wrote l at (decimal x) m r → Wrote l at (decimal x) m r × (r ≤ at + 20)
-number_ends l at x m r h w = (w, omega (arith, w.behind, decimal_few x h))
+pub drive_parts : (page : List ℕ) (d : ℕ) (arcs : List ℕ) → page ++ drive_written d arcs ≡ page ++ spaced (d ∷ []) ++ spaced (length arcs ∷ []) ++ spaced (map suc arcs) ++ (lf ∷ [])
+drive_parts page d arcs = rw (drive_is d arcs) (simp append_assoc)
 
--- one arc number more takes five places at most
-pub arcs_step : (l : List ℕ) (at : ℕ) (route m : List ℕ) (next i arcs x : ℕ) (n : List ℕ) (r : ℕ) → ArcsShort route arcs → i < arcs → Wrote l at (arcs_written route i) m next → next ≤ at + 5 * i → x ≡ get_or route i 0 → Wrote m next (spaced ((x + 1) ∷ [])) n r → Wrote l at (arcs_written route (i + 1)) n r × (r ≤ at + 5 * (i + 1))
-arcs_step l at route m next i arcs x n r s h w b e v =
-    let u : Wrote m next (spaced ((get_or route i 0 + 1) ∷ [])) n r = rw e at v in (
-      rw (arcs_more route i (omega (arith, s.there))) (wrote_then l at (arcs_written route i) m next (spaced ((get_or route i 0 + 1) ∷ [])) n r w u),
-      omega (arith, u.behind, spaced_short (get_or route i 0 + 1) (omega (arith, s.low i h))),
-    )
+-- a number of one digit, and one of more: the others first
+pub digit_last : (page : List ℕ) (x : ℕ) → 10 ≤ x → x < 18446744073709551616 → page ++ decimal x ≡ page ++ decimal (x / 10) ++ ((48 + x % 10) ∷ [])
+digit_last page x h g = rw (decimal_more x h g) (simp append_assoc)
 
--- a reply begins with its two junctions, counted from 1
-pub reply_start : (l : List ℕ) (at from to x y : ℕ) (m : List ℕ) (p : ℕ) (n : List ℕ) (q : ℕ) → x ≡ from → y ≡ to → Wrote l at (decimal (x + 1)) m p → Wrote m p (spaced ((y + 1) ∷ [])) n q → Wrote l at (decimal (suc from) ++ spaced (suc to ∷ [])) n q
-reply_start l at from to x y m p n q e f a b =
-    wrote_then l at (decimal (suc from)) m p (spaced (suc to ∷ [])) n q (rw (e, add-one from) at a) (rw (f, add-one to) at b)
+pub digit_alone : (page : List ℕ) (x : ℕ) → x < 10 → page ++ decimal x ≡ page ++ ((48 + x % 10) ∷ [])
+digit_alone page x h = let e : x % 10 ≡ x = omega arith in rw (e, decimal_one x h) refl
+
+-- a reply's parts: its two junctions, counted from 1, and what route answers
+module _ (from to : ℕ) where
+  drive_is_told : (d k : ℕ) (route : List ℕ)
+      → reply_line from to (route_left route (drive d k)) ≡ decimal (suc from) ++ spaced (suc to ∷ []) ++ (spaced (d ∷ k ∷ map suc (take k route)) ++ (lf ∷ []))
+  unfolding reply_line
+  drive_is_told d k route = refl
+
+  no_walk_is_told : (route : List ℕ)
+      → reply_line from to (route_left route no_walk) ≡ decimal (suc from) ++ spaced (suc to ∷ []) ++ (space ∷ 110 ∷ 111 ∷ 110 ∷ 101 ∷ lf ∷ [])
+  unfolding reply_line
+  no_walk_is_told route = refl
+
+  refused_is_told : (n p : ℕ) (route : List ℕ)
+      → reply_line from to (route_left route (refused n p)) ≡ decimal (suc from) ++ spaced (suc to ∷ []) ++ ((space ∷ []) ++ refused_line n)
+  unfolding reply_line
+  refused_is_told n p route = refl
+
+drive_short : (d k : ℕ) (route : List ℕ) → k ≤ length route → spaced (d ∷ k ∷ map suc (take k route)) ++ (lf ∷ []) ≡ drive_written d (take k route)
+unfolding drive_written
+drive_short d k route h = let e : length (take k route) ≡ k = omega (arith, length-take k route) in rw e refl
+
+module _ (page : List ℕ) (from to : ℕ) where
+  -- any ending stands behind the two junctions
+  started : (rest : List ℕ) → page ++ (decimal (suc from) ++ spaced (suc to ∷ []) ++ rest) ≡ page ++ decimal (from + 1) ++ spaced ((to + 1) ∷ []) ++ rest
+  started rest = rw (add-one from, add-one to) (simp append_assoc)
+
+  pub drive_told : (d k : ℕ) (route : List ℕ) → k ≤ length route
+      → page ++ reply_line from to (route_left route (drive d k)) ≡ page ++ decimal (from + 1) ++ spaced ((to + 1) ∷ []) ++ drive_written d (take k route)
+  drive_told d k route h = rw (drive_is_told from to d k route, drive_short d k route h) (started (drive_written d (take k route)))
+
+  pub no_walk_told : (route : List ℕ)
+      → page ++ reply_line from to (route_left route no_walk) ≡ page ++ decimal (from + 1) ++ spaced ((to + 1) ∷ []) ++ (space ∷ 110 ∷ 111 ∷ 110 ∷ 101 ∷ lf ∷ [])
+  no_walk_told route = rw (no_walk_is_told from to route) (started (space ∷ 110 ∷ 111 ∷ 110 ∷ 101 ∷ lf ∷ []))
+
+  pub refused_told : (n p : ℕ) (route : List ℕ)
+      → page ++ reply_line from to (route_left route (refused n p)) ≡ page ++ decimal (from + 1) ++ spaced ((to + 1) ∷ []) ++ (space ∷ []) ++ refused_line n
+  refused_told n p route =
+      rw (refused_is_told from to n p route) (started ((space ∷ []) ++ refused_line n) ∙ sym (append_assoc (page ++ decimal (from + 1) ++ spaced ((to + 1) ∷ [])) (space ∷ []) (refused_line n)))
+
+  -- the two junctions, written one after the other
+  pub junctions_written : (first second : List ℕ) (x y : ℕ) → x ≡ from → y ≡ to → first ≡ page ++ decimal (x + 1) → second ≡ first ++ spaced ((y + 1) ∷ [])
+      → second ≡ page ++ decimal (from + 1) ++ spaced ((to + 1) ∷ [])
+  junctions_written first second x y e f g h = h ∙ rw (g, e, f) refl
+
+-- what route answers, if it is accepted
+pub answer_is : (answer : Result (Option Drive) Refusal) (o p : Option Drive) → answer ≡ Ok o → o ≡ p → answer ≡ Ok p
+answer_is answer o p e f = e ∙ ap (λ (x : Option Drive). Ok x) f

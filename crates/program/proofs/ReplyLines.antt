@@ -7,9 +7,10 @@ use native.Mathlib.Omega.{arith}
 use native.Mathlib.Numerals.{add-one}
 use lib.Dec.{T, eqb, ltb}
 use lib.ListN.{length, get_or, take, replicate, length-append, length-replicate, get_or-append}
-use lib.Seq.{take_all}
-use Rattle.rules.specs.declared.RouteAnswer.{RouteAnswer}
-use Rattle.rules.specs.declared.RouteAnswer.TheVariants.{Drive, NoWalk, Refused}
+use Rattle.std.proofs.Common.{Option, Some, None, Result, Ok, Err}
+use Rattle.std.proofs.lemmas.List.{get_or-take, length-take}
+use Rattle.rules.specs.declared.Drive.{Drive}
+use Rattle.rules.specs.declared.Refusal.{Refusal}
 use Rattle.rules.specs.Costs.{closed}
 use Rattle.rules.specs.Replies.{route_reply, refused}
 use Rattle.rules.specs.Net.{Net, arcs, tail, head, in_force, size}
@@ -19,15 +20,10 @@ use Rattle.theory.specs.Demand3.{is_walk, SomeWalk}
 use Rattle.theory.proofs.Words.{and_l, and_r, ltb_e}
 use Rattle.theory.proofs.AnyLists.{route_on_any_lists}
 use Rattle.text.specs.Program.{reply_line, reply_lines, noughts}
-use Rattle.print.specs.Written.{Wrote, ArcsShort, ReplyShort}
-use Rattle.print.proofs.Wrote.{wrote_none, wrote_then}
+use Rattle.print.specs.Written.{ArcsShort, ReplyShort}
 use Rattle.rules.specs.Graph.{Graph}
 use Rattle.rules.specs.Hierarchy.{EdgeCosts}
 use Rattle.rules.specs.Refusals.{passes, check11, fails}
-
--- the longest answer fits: a first line of 27 bytes and 64 replies of 1,400
-pub room_left : (i at : ℕ) → i < 64 → at ≤ 27 + 1400 * i → at + 1400 ≤ 98304
-room_left i at h g = omega arith
 
 -- ---- a reply of route is short
 
@@ -40,29 +36,32 @@ walk_listed N from (a ∷ way) to t zero h =
 walk_listed N from (a ∷ way) to t (suc i) h =
     walk_listed N (head N a) way to (and_r (ltb a (arcs N) && in_force N a && eqb (tail N a) from) (is_walk N (head N a) way to) t) i (omega arith)
 
-walk_short : (N : Net) (from to d k : ℕ) (route : List ℕ) → SomeWalk N from to d k route → length route ≡ 256 → arcs N ≤ 1024 → ArcsShort route k
+walk_short : (N : Net) (from to d k : ℕ) (route : List ℕ) → SomeWalk N from to d k route → length route ≡ 256 → arcs N ≤ 1024 → (k ≤ length route) × ArcsShort (take k route)
 unfolding route_list
 walk_short N from to d k route w e m =
     let r : length route ≡ length w.way + (length route - length w.way) =
     ap length w.listed ∙ length-append w.way (replicate (length route - length w.way) closed) ∙ rw (length-replicate (length route - length w.way) closed) refl in
-    record {
-      few = omega (arith, w.count);
-      there = omega (arith, w.count);
-      low = λ i h.
-          let g : get_or route i 0 ≡ get_or w.way i 0 =
-          ap (λ l. get_or l i 0) w.listed ∙ get_or-append w.way (replicate (length route - length w.way) closed) 0 i (omega (arith, w.count)) in
-          omega (arith, g, walk_listed N from w.way to w.walks i (omega (arith, w.count)));
-    }
+    let few : k ≤ length route = omega (arith, w.count) in (
+      few,
+      record {
+        few = omega (arith, length-take k route);
+        low = λ i h.
+            let l : i < k = omega (arith, length-take k route) in
+            let g : get_or route i 0 ≡ get_or w.way i 0 =
+            ap (λ l. get_or l i 0) w.listed ∙ get_or-append w.way (replicate (length route - length w.way) closed) 0 i (omega (arith, w.count)) in
+            omega (arith, get_or-take k route i 0 l, g, walk_listed N from w.way to w.walks i (omega (arith, w.count)));
+      },
+    )
 
 -- what route answers, with 256 places and at most 1,024 arcs
-pub reply_short : (N : Net) (rank : List ℕ) (G : Graph) (C : EdgeCosts) (from to : ℕ) (before route : List ℕ) (r : RouteAnswer) → route_left route (route_reply r) ≡ route_leaves N rank G C from to before → length route ≡ 256 → arcs N ≤ 1024 → ReplyShort r route
-reply_short N rank G C from to before route (Drive d k) e h m =
-    walk_short N from to d k route
-    (subst (λ (l : RouteLeaves). SomeWalk N from to d k l.route) (sym e)
-    (route_on_any_lists N rank G C from to before d k (sym (ap (λ (l : RouteLeaves). l.reply) e))))
+pub reply_short : (N : Net) (rank : List ℕ) (G : Graph) (C : EdgeCosts) (from to : ℕ) (before route : List ℕ) (r : Result (Option Drive) Refusal) → route_left route (route_reply r) ≡ route_leaves N rank G C from to before → length route ≡ 256 → arcs N ≤ 1024 → ReplyShort r route
+reply_short N rank G C from to before route (Ok (Some f)) e h m =
+    walk_short N from to f.distance f.arcs route
+    (subst (λ (l : RouteLeaves). SomeWalk N from to f.distance f.arcs l.route) (sym e)
+    (route_on_any_lists N rank G C from to before f.distance f.arcs (sym (ap (λ (l : RouteLeaves). l.reply) e))))
     h m
-reply_short N rank G C from to before route NoWalk e h m = tt
-reply_short N rank G C from to before route (Refused q) e h m = tt
+reply_short N rank G C from to before route (Ok None) e h m = tt
+reply_short N rank G C from to before route (Err q) e h m = tt
 
 -- ---- one question, over lists that customise accepts
 
@@ -93,36 +92,21 @@ module _ (N : Net) (rank : List ℕ) (G : Graph) (C : EdgeCosts) where
 
 -- ---- the questions, one after the other
 
-module _ (N : Net) (rank : List ℕ) (G : Graph) (C : EdgeCosts) where
-  -- the reply that was written is the one that the definition gives
-  pub reply_wrote : (from to : ℕ) (before left : List ℕ) (at : ℕ) (r : RouteAnswer) (after : List ℕ) (next : ℕ)
-      → route_left left (route_reply r) ≡ route_leaves N rank G C from to (noughts 256)
-      → Wrote before at (reply_line from to (route_left left (route_reply r))) after next
-      → Wrote before at (reply_line from to (route_leaves N rank G C from to (noughts 256))) after next
-  reply_wrote from to before left at r after next e w = subst (λ l. Wrote before at (reply_line from to l) after next) e w
+module _ (N : Net) (rank : List ℕ) (G : Graph) (C : EdgeCosts) (froms tos before : List ℕ) where
+  -- i questions have been answered
+  pub record Answering (page : List ℕ) (i : ℕ) : Type 0 where
+    pub wrote : page ≡ before ++ reply_lines N rank G C (take i froms) (take i tos)
+    pub few : length page ≤ 27 + 1400 * i
 
-  module _ (froms tos before : List ℕ) (start : ℕ) where
-    -- i questions have been answered
-    pub record Answering (output : List ℕ) (at i : ℕ) : Type 0 where
-      pub within : i ≤ length froms
-      pub wrote : Wrote before start (reply_lines N rank G C (take i froms) (take i tos)) output at
-      pub few : at ≤ 27 + 1400 * i
+  pub answering_none : length before ≤ 27 → Answering before 0
+  unfolding reply_lines
+  answering_none h = record { wrote = sym (append-nil before); few = omega arith }
 
-    pub answering_none : start ≤ 27 → Answering before start 0
-    unfolding reply_lines
-    answering_none h = record { within = omega arith; wrote = wrote_none before start; few = omega arith }
-
-    pub answering_more : {output : List ℕ} {at i : ℕ} (output' : List ℕ) (at' : ℕ) → Answering output at i → length tos ≡ length froms → i < length froms
-        → Wrote output at (reply_line (get_or froms i 0) (get_or tos i 0) (route_leaves N rank G C (get_or froms i 0) (get_or tos i 0) (noughts 256))) output' at'
-        → at' ≤ at + 1400 → Answering output' at' (i + 1)
-    answering_more {output} {at} {i} output' at' a e h w g =
-        record {
-          within = omega arith;
-          wrote = rw (replies_more N rank G C froms tos i h (omega arith)) (wrote_then before start _ output at _ output' at' a.wrote w);
-          few = omega (arith, a.few);
-        }
-
-    pub answering_all : {output : List ℕ} {at i : ℕ} → Answering output at i → length tos ≡ length froms → length froms ≤ i
-        → Wrote before start (reply_lines N rank G C froms tos) output at
-    answering_all {output} {at} {i} a e h =
-        rw (take_all i froms h, take_all i tos (omega arith)) at a.wrote
+  pub answering_more : (page page' : List ℕ) (i u v : ℕ) → Answering page i → i < length froms → i < length tos → u ≡ get_or froms i 0 → v ≡ get_or tos i 0
+      → page' ≡ page ++ reply_line u v (route_leaves N rank G C u v (noughts 256))
+      → length page' ≤ length page + 1400 → Answering page' (i + 1)
+  answering_more page page' i u v a h k e f w g =
+      record {
+        wrote = w ∙ rw (e, f, a.wrote, replies_more N rank G C froms tos i h k) (append_assoc before (reply_lines N rank G C (take i froms) (take i tos)) (reply_line (get_or froms i 0) (get_or tos i 0) (route_leaves N rank G C (get_or froms i 0) (get_or tos i 0) (noughts 256))));
+        few = omega (arith, a.few);
+      }

@@ -1,19 +1,26 @@
--- What the program's one function leaves, reply and lent output, as one definition of what it gets. Assumes nothing.
-use Rattle.std.specs.Prelude.{ℕ, ◌≤◌, ◌≡◌, List, ◌++◌, length, drop}
-use Rattle.text.specs.Program.{answer}
+-- What the program's one function answers, as one definition of what it gets. Assumes nothing.
+use Rattle.std.specs.Prelude.{ℕ, ⊤, Result, Ok, Err, ◌≤◌, ◌≡◌, List, ◌++◌, length}
+use Rattle.rules.specs.declared.Refusal.{Refusal}
+use Rattle.rules.specs.Replies.{refusal_number}
+use Rattle.text.specs.Program.{answer, refused_line}
 
--- how many bytes the answer has, and the output
+-- how many bytes the answer has, and the bytes
 pub record AnswerLeaves : Type 0 where
   pub size : ℕ
   pub output : List ℕ
 
-abbrev pub answer_left : ℕ → List ℕ → AnswerLeaves
-answer_left size output = record { size = size; output = output }
+-- of a page that holds the answer
+abbrev pub answer_left : List ℕ → AnswerLeaves
+answer_left page = record { size = length page; output = page }
 
--- the answer at the output's start, and behind it what stood there
-unfoldable pub answer_leaves : List ℕ → List ℕ → AnswerLeaves
+unfoldable pub answer_leaves : List ℕ → AnswerLeaves
 unfolding answer
-answer_leaves input output = answer_left (length (answer input)) (answer input ++ drop (length (answer input)) output)
+answer_leaves input = answer_left (answer input)
+
+-- "Any earlier refusal prints only `refused N`": what a page holds with that line, if anything was refused
+abbrev pub answered : Result ⊤ Refusal → List ℕ → List ℕ
+answered (Ok done) page = page
+answered (Err r) page = page ++ refused_line (refusal_number r)
 
 -- lists of a text within its limits, as many questions' ends as starts
 pub record Limits (tails froms tos : List ℕ) : Type 0 where

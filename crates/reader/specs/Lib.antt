@@ -1,1 +1,2 @@
 pub mod ReadOn
+pub mod State

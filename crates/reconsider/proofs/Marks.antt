@@ -15,24 +15,23 @@ use Rattle.theory.proofs.Rows.{next_row, in_row_i, in_heads, once, before}
 use Rattle.turns.specs.Edges.{edges_of, Stretch}
 use Rattle.turns.specs.Waiting.{Turn}
 use Rattle.turns.specs.Met.{Met, AllMet}
-use Rattle.turns.proofs.Stored.{stored}
 use Rattle.turns.proofs.Stretches.{stretch_row, stretch_part}
 use Rattle.reconsider.specs.Flags.{flagged}
 use Rattle.reconsider.specs.Marks.{says, Dirty, MarkedOf, Cause, road_changed, row_changed, MarkedRow}
-use Rattle.reconsider.proofs.Said.{says_e, said_here, said_still, said_only}
+use Rattle.reconsider.proofs.Said.{says_no, said, said_here, said_still, said_only}
 
 -- ---- the places, some after others
 
 module _ {heads : List ℕ} {yes : ℕ → Bool} where
   -- places of which none is to be marked
-  pub marked_off : {a b : ℕ} {marks : List ℕ} → ((k : ℕ) → a ≤ k → k < b → T (yes k) → ⊥) → MarkedOf heads yes a b marks marks
+  pub marked_off : {a b : ℕ} {marks : List Bool} → ((k : ℕ) → a ≤ k → k < b → T (yes k) → ⊥) → MarkedOf heads yes a b marks marks
   marked_off none = record { long = refl; hit = λ k h l t. absurd (none k h l t); stay = λ y t. t; made = λ y t. inl t }
 
   -- one place, which is
-  pub marked_one : {j y : ℕ} {marks marks' : List ℕ} → T (yes j) → y ≡ get_or heads j 0 → y < length marks → marks' ≡ set marks y 1
+  pub marked_one : {j y : ℕ} {marks marks' : List Bool} → T (yes j) → y ≡ get_or heads j 0 → y < length marks → marks' ≡ set marks y true
       → MarkedOf heads yes j (j + 1) marks marks'
   marked_one {j} {y} {marks} {marks'} t ey seat e =
-      let s = stored marks marks' y 1 e seat in
+      let s = said marks marks' y true e seat in
       record {
         long = s.long;
         hit = λ k h l u.
@@ -43,7 +42,7 @@ module _ {heads : List ℕ} {yes : ℕ → Bool} where
       }
 
   -- those up to b, then those from b on
-  pub marked_join : {a b c : ℕ} {marks₀ marks marks' : List ℕ} → a ≤ b → b ≤ c → MarkedOf heads yes a b marks₀ marks → MarkedOf heads yes b c marks marks'
+  pub marked_join : {a b c : ℕ} {marks₀ marks marks' : List Bool} → a ≤ b → b ≤ c → MarkedOf heads yes a b marks₀ marks → MarkedOf heads yes b c marks marks'
       → MarkedOf heads yes a c marks₀ marks'
   marked_join {b = b} ab bc M N =
       record {
@@ -60,17 +59,17 @@ module _ {heads : List ℕ} {yes : ℕ → Bool} where
       }
 
   -- the end told in another way
-  pub marked_end : {a b c : ℕ} {marks marks' : List ℕ} → b ≡ c → MarkedOf heads yes a b marks marks' → MarkedOf heads yes a c marks marks'
+  pub marked_end : {a b c : ℕ} {marks marks' : List Bool} → b ≡ c → MarkedOf heads yes a b marks marks' → MarkedOf heads yes a c marks marks'
   marked_end {a} {marks = marks} {marks' = marks'} e M = subst (λ v. MarkedOf heads yes a v marks marks') e M
 
 module _ {heads : List ℕ} (flags : List ℕ) (i : ℕ) where
   -- where place i is flagged all others are to be marked
-  pub marked_near : {a b : ℕ} {marks marks' : List ℕ} → flagged flags i ≡ true → MarkedOf heads (λ k. true) a b marks marks'
+  pub marked_near : {a b : ℕ} {marks marks' : List Bool} → flagged flags i ≡ true → MarkedOf heads (λ k. true) a b marks marks'
       → MarkedOf heads (λ k. flagged flags i || flagged flags k) a b marks marks'
   marked_near e M = rw e M
 
   -- and where it is not, those that are flagged: it is not one of them
-  pub marked_later : {b : ℕ} {marks marks' : List ℕ} → flagged flags i ≡ false → MarkedOf heads (flagged flags) i b marks marks'
+  pub marked_later : {b : ℕ} {marks marks' : List Bool} → flagged flags i ≡ false → MarkedOf heads (flagged flags) i b marks marks'
       → MarkedOf heads (λ k. flagged flags i || flagged flags k) (i + 1) b marks marks'
   marked_later e M =
       rw e (record {
@@ -88,24 +87,25 @@ module _ {heads : List ℕ} (flags : List ℕ) (i : ℕ) where
 
 module _ {G : Graph} {z i : ℕ} (U : Turn G z) (r : InRow G z i) where
   -- the row's end is behind place i and no further than the edges go, and the row goes on up to it
-  pub row_end : {end : ℕ} → end ≡ get_or G.first (z + 1) 0 → (i < end) × (end ≤ edges_of G) × Stretch G.heads i end
-  row_end {end} e =
+  pub row_end : let end = get_or G.first (z + 1) 0 in (i < end) × (end ≤ edges_of G) × Stretch G.heads i end
+  row_end =
+      let end = get_or G.first (z + 1) 0 in
       let h : i < end = omega (arith, r.high, next_row G z) in
       let last = in_row_i G z (end - 1) (omega (arith, r.low)) (omega arith) in
       (h, omega (arith, in_heads U.rows z (end - 1) U.under last), stretch_part (stretch_row U r) (omega arith) (omega arith))
 
   -- a row without a flagged place marks nothing
-  pub marked_clean : {flags dirty marks : List ℕ} → Dirty G flags dirty → get_or dirty z 0 ≡ 0
+  pub marked_clean : {flags : List ℕ} {dirty marks : List Bool} → Dirty G flags dirty → get_or dirty z false ≡ false
       → MarkedOf G.heads (λ k. flagged flags i || flagged flags k) (i + 1) (get_or G.first (z + 1) 0) marks marks
   marked_clean {flags} {dirty} D e =
-      let clean : (k : ℕ) → InRow G z k → T (flagged flags k) → ⊥ = λ k s t. says_e dirty z (D.shown z k U.under s t) e in
+      let clean : (k : ℕ) → InRow G z k → T (flagged flags k) → ⊥ = λ k s t. says_no dirty z e (D.shown z k U.under s t) in
       marked_off (λ k h l t.
       either (or_e (flagged flags i) (flagged flags k) t) (clean i r) (clean k (in_row_i G z k (omega (arith, r.low)) l)))
 
 -- ---- the rows met, one after the other
 
 -- the first t of them have had their turn
-pub record Rowing (G : Graph) (flags met : List ℕ) (x : ℕ) (marks₀ : List ℕ) (t : ℕ) (marks : List ℕ) : Type 0 where
+pub record Rowing (G : Graph) (flags met : List ℕ) (x : ℕ) (marks₀ : List Bool) (t : ℕ) (marks : List Bool) : Type 0 where
   pub long : length marks ≡ length marks₀
   pub stay : (y : ℕ) → T (says marks₀ y) → T (says marks y)
   pub done : (u z a b : ℕ) → u < t → get_or met u 0 ≡ z → InRow G z a → InRow G z b → get_or G.heads a 0 ≡ x → x < get_or G.heads b 0
@@ -113,32 +113,32 @@ pub record Rowing (G : Graph) (flags met : List ℕ) (x : ℕ) (marks₀ : List 
   pub made : (y : ℕ) → T (says marks y) → Cause G flags (says marks₀) x y
 
 -- none yet
-pub rowing_none : {G : Graph} {flags met : List ℕ} {x : ℕ} {marks : List ℕ} → Rowing G flags met x marks 0 marks
+pub rowing_none : {G : Graph} {flags met : List ℕ} {x : ℕ} {marks : List Bool} → Rowing G flags met x marks 0 marks
 rowing_none = record { long = refl; stay = λ y t. t; done = λ u z a b l. absurd (omega arith); made = λ y t. road_changed t }
 
 module _ {G : Graph} {x : ℕ} (U : Turn G x) {m : ℕ} {met at : List ℕ} (M : Met G x m met at) where
-  -- a row met is one below x, and has x where it is noted
-  pub met_place : {t z i : ℕ} → t < m → z ≡ get_or met t 0 → i ≡ get_or at t 0 → (z < x) × Turn G z × InRow G z i × (get_or G.heads i 0 ≡ x)
-  met_place {t} l e ei = (
-    omega (arith, M.under t l),
-    record { rows = U.rows; few = U.few; under = omega (arith, M.under t l, U.under) },
-    rw (e, ei) (M.row t l),
-    rw ei (M.entry t l),
-  )
+  -- a row met is that of a position
+  pub met_turn : {t : ℕ} → t < m → Turn G (get_or met t 0)
+  met_turn {t} l = record { rows = U.rows; few = U.few; under = omega (arith, M.under t l, U.under) }
 
-  module _ {flags marks₀ : List ℕ} {t : ℕ} {marks : List ℕ} (K : Rowing G flags met x marks₀ t marks) where
+  module _ {flags : List ℕ} {marks₀ : List Bool} {t : ℕ} {marks : List Bool} (K : Rowing G flags met x marks₀ t marks) where
     -- one more
-    pub rowing_more : {z i : ℕ} {marks' : List ℕ} → t < m → z ≡ get_or met t 0 → i ≡ get_or at t 0
-        → MarkedOf G.heads (λ k. flagged flags i || flagged flags k) (i + 1) (get_or G.first (z + 1) 0) marks marks' → Rowing G flags met x marks₀ (t + 1) marks'
-    rowing_more {z} {i} {marks'} l e ei D =
-        let (zx, W, r, ex) = met_place l e ei in
+    pub rowing_more : {marks' : List Bool} → t < m → let z = get_or met t 0 in let i = get_or at t 0 in
+        MarkedOf G.heads (λ k. flagged flags i || flagged flags k) (i + 1) (get_or G.first (z + 1) 0) marks marks' → Rowing G flags met x marks₀ (t + 1) marks'
+    rowing_more {marks'} l D =
+        let z = get_or met t 0 in
+        let i = get_or at t 0 in
+        let W = met_turn l in
+        let zx = M.under t l in
+        let r = M.row t l in
+        let ex = M.entry t l in
         record {
           long = D.long ∙ K.long;
           stay = λ y s. D.stay y (K.stay y s);
           done = λ u q a b h eq ra rb ea xb f.
               either (same_or_not u t)
               (λ s.
-              let same : q ≡ z = sym eq ∙ ap (λ v. get_or met v 0) s ∙ sym e in
+              let same : q ≡ z = sym eq ∙ ap (λ v. get_or met v 0) s in
               let ra' = subst (λ v. InRow G v a) same ra in
               let rb' = subst (λ v. InRow G v b) same rb in
               let p = once W.rows z a i W.under ra' r (ea ∙ sym ex) in

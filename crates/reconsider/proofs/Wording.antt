@@ -2,6 +2,7 @@
 use Prim.Native.Nat.{ℕ, suc, ◌+◌, ◌-◌, ◌*◌, ◌/◌, ◌%◌, ◌^◌, ◌≤◌, ◌<◌, min}
 use mathlib.Core.Path.{◌≡◌, sym, ap, ◌∙◌, subst}
 use mathlib.Core.Logic.{◌≢◌}
+use mathlib.Core.Bool.{Bool, true}
 use mathlib.Core.List.{List}
 use native.Mathlib.Omega.{arith}
 use lib.Bits.{bit_and}
@@ -18,19 +19,19 @@ use Rattle.reconsider.proofs.Flags.{word_from, flag_bit}
 use Rattle.reconsider.proofs.Marks.{marked_off, marked_one, marked_join, marked_end}
 
 -- so many bits of the word have had their turn, and rest has the others
-pub record Wording (heads flags : List ℕ) (from end : ℕ) (marks₀ : List ℕ) (rest : ℕ) (marks : List ℕ) : Type 0 where
+pub record Wording (heads flags : List ℕ) (from end : ℕ) (marks₀ : List Bool) (rest : ℕ) (marks : List Bool) : Type 0 where
   pub past : ℕ
   pub within : from % 64 + past ≤ 64
   pub left : rest ≡ word_from flags from / 2 ^ past * 2 ^ past
   pub marked : MarkedOf heads (flagged flags) from (min end (from + past)) marks₀ marks
 
 -- none yet
-pub wording_start : {heads flags marks : List ℕ} {from end : ℕ} → Wording heads flags from end marks (word_from flags from) marks
+pub wording_start : {heads flags : List ℕ} {marks : List Bool} {from end : ℕ} → Wording heads flags from end marks (word_from flags from) marks
 wording_start {flags = flags} {from = from} =
     let w = word_from flags from in
     record { past = 0; within = omega arith; left = sym (parts w 0) ∙ omega arith; marked = marked_off (λ k h l t. omega arith) }
 
-module _ {heads flags : List ℕ} {from end : ℕ} {marks₀ : List ℕ} {rest : ℕ} {marks : List ℕ} (K : Wording heads flags from end marks₀ rest marks) where
+module _ {heads flags : List ℕ} {from end : ℕ} {marks₀ : List Bool} {rest : ℕ} {marks : List Bool} (K : Wording heads flags from end marks₀ rest marks) where
   -- rest has the bits of the word that are left
   rest_bit : (b : ℕ) → K.past ≤ b → rest / 2 ^ b ≡ word_from flags from / 2 ^ b
   rest_bit b h = ap (λ v. v / 2 ^ b) K.left ∙ cleared (word_from flags from) K.past b h
@@ -86,7 +87,7 @@ module _ {heads flags : List ℕ} {from end : ℕ} {marks₀ : List ℕ} {rest :
       wording_short l h = marked_far l (λ k a b. below_off low (k - from) (omega arith))
 
       -- that place is, and what stands there is marked
-      pub wording_more : {y : ℕ} {marks' : List ℕ} → j < end → y ≡ get_or heads j 0 → y < length marks → marks' ≡ set marks y 1
+      pub wording_more : {y : ℕ} {marks' : List Bool} → j < end → y ≡ get_or heads j 0 → y < length marks → marks' ≡ set marks y true
           → Wording heads flags from end marks₀ (bit_and rest (rest - 1)) marks'
       wording_more h ey seat e =
           let t = count_trailing_zeros 64 rest in

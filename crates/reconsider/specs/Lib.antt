@@ -1,3 +1,4 @@
 pub mod Flags
+pub mod RowsMet
 pub mod Marks
 pub mod Reaches

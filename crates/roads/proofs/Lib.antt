@@ -1,2 +1,3 @@
 pub mod ByTail
 pub mod LastListed
+pub mod OfNet

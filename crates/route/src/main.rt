@@ -2,16 +2,16 @@
 #![tactic(auto)]
 
 use program::answer;
-use streams::{Got, read_all, tell_unread, write_out};
+use streams::{read_all, tell_unread, write_out};
 
 // Reads one byte more than a text may have, so that too long a text is seen.
+// `bad_line` has such a main, too: a shared one would take the answer as a closure over pages of two sizes.
 fn main(rt: HostRuntime) {
     let mut input = [0u8; 65537];
-    let mut output = [0u8; 98304];
-    let Got::Bytes(got) = read_all(&mut rt.stdin(), &mut input) else {
+    let Ok(got) = read_all(&mut rt.stdin(), &mut input) else {
         tell_unread(rt.stderr(), b"route");
         return;
     };
-    let size = answer(&input[..got], &mut output);
-    write_out(rt.stdout(), rt.stderr(), b"route", &output[..size]);
+    let page = answer(&input[..got]);
+    write_out(rt.stdout(), rt.stderr(), b"route", page.written());
 }

@@ -4,6 +4,7 @@ pub mod Replies
 pub mod Net
 pub mod Graph
 pub mod Hierarchy
+pub mod Lent
 pub mod Customised
 pub mod Changed
 pub mod Distance

@@ -1,18 +1,9 @@
 -- What a call replies, in the paper's numbers, for each case of each answer. The promises of the calls use these definitions.
 -- Assumes nothing.
-use Rattle.std.specs.Prelude.{ℕ}
+use Rattle.std.specs.Prelude.{ℕ, ⊤, Option, Some, None, Result, Ok, Err}
 use Rattle.rules.specs.declared.Refusal.{Refusal}
 use Rattle.rules.specs.declared.Refusal.TheVariants.{JunctionCount, ArcLists, ArcEnd, OrderEntry, RankOrFirstRoom, HeadsRoom, NotAHierarchy, ArcWithoutEdge, ArcCost, CostLists, StartOrTarget, RouteRoom, PieceFitsNothing, Text, DistanceRoom, TooFar, ArcNumber}
-use Rattle.rules.specs.declared.BuildAnswer.{BuildAnswer}
-use Rattle.rules.specs.declared.BuildAnswer.TheVariants as build
-use Rattle.rules.specs.declared.FillAnswer.{FillAnswer}
-use Rattle.rules.specs.declared.FillAnswer.TheVariants as fill
-use Rattle.rules.specs.declared.ChangeAnswer.{ChangeAnswer}
-use Rattle.rules.specs.declared.ChangeAnswer.TheVariants as change
-use Rattle.rules.specs.declared.DistanceAnswer.{DistanceAnswer}
-use Rattle.rules.specs.declared.DistanceAnswer.TheVariants as distance
-use Rattle.rules.specs.declared.RouteAnswer.{RouteAnswer}
-use Rattle.rules.specs.declared.RouteAnswer.TheVariants as route
+use Rattle.rules.specs.declared.Drive.{Drive}
 use Rattle.rules.specs.Costs.{none}
 
 -- "A refusal returns its number and place and no distance"; build replies E; customise and the sweeps are done; distance replies a distance
@@ -66,27 +57,35 @@ refusal_place DistanceRoom = 0
 refusal_place (TooFar junction) = junction
 refusal_place ArcNumber = 0
 
-abbrev pub build_reply : BuildAnswer → Reply
-build_reply (build.Edges e) = edges e
-build_reply (build.Refused r) = refused (refusal_number r) (refusal_place r)
+-- a call refuses, or replies what it tells of lists that it accepts
+abbrev pub reply_of : {X : Type 0} (told : X → Reply) → Result X Refusal → Reply
+reply_of told (Ok x) = told x
+reply_of told (Err r) = refused (refusal_number r) (refusal_place r)
 
-abbrev pub fill_reply : FillAnswer → Reply
-fill_reply fill.Done = done
-fill_reply (fill.Refused r) = refused (refusal_number r) (refusal_place r)
+-- "distance replies a distance or "none""
+abbrev pub distance_found : Option ℕ → Reply
+distance_found (Some d) = far d
+distance_found None = no_walk
 
-abbrev pub change_reply : ChangeAnswer → Reply
-change_reply (change.Triangles t) = looked t
-change_reply (change.Refused r) = refused (refusal_number r) (refusal_place r)
+-- "distance and number of arcs, or "none""
+abbrev pub route_found : Option Drive → Reply
+route_found (Some r) = drive r.distance r.arcs
+route_found None = no_walk
 
-abbrev pub distance_reply : DistanceAnswer → Reply
-distance_reply (distance.Tenths d) = far d
-distance_reply distance.NoWalk = no_walk
-distance_reply (distance.Refused r) = refused (refusal_number r) (refusal_place r)
+abbrev pub build_reply : Result ℕ Refusal → Reply
+build_reply = reply_of edges
 
-abbrev pub route_reply : RouteAnswer → Reply
-route_reply (route.Drive d k) = drive d k
-route_reply route.NoWalk = no_walk
-route_reply (route.Refused r) = refused (refusal_number r) (refusal_place r)
+abbrev pub fill_reply : Result ⊤ Refusal → Reply
+fill_reply = reply_of (λ _. done)
+
+abbrev pub change_reply : Result ℕ Refusal → Reply
+change_reply = reply_of looked
+
+abbrev pub distance_reply : Result (Option ℕ) Refusal → Reply
+distance_reply = reply_of distance_found
+
+abbrev pub route_reply : Result (Option Drive) Refusal → Reply
+route_reply = reply_of route_found
 
 -- a reply as plain numbers: the refusal's number, 0 when accepted
 abbrev pub number_told : Reply → ℕ

@@ -2,30 +2,19 @@
 // What each means is defined in specs/, one definition for one sentence of the paper.
 #![tactic(auto)]
 
-ghost use Rattle.std.specs.Prelude.{◌+◌, ◌<◌, ◌≡◌};
+ghost use Rattle.std.specs.Prelude.{◌+◌, ◌<◌, ◌≡◌, length, get_or};
 ghost use Rattle.rules.specs.Costs.{closed, none, sum_of, least_of, add_up, label_over};
 ghost use Rattle.rules.specs.Hierarchy.{opposite};
-ghost use Rattle.rules.specs.Replies.{refusal_number, refusal_place, build_reply, fill_reply, change_reply, distance_reply, route_reply, number_told, place_told, edges_told, distance_told, arcs_told, triangles_told};
+ghost use Rattle.rules.specs.Lent.{lent_costs, chosen};
+ghost use Rattle.rules.specs.Replies.{Reply, refusal_number, refusal_place, reply_of, distance_reply, route_reply, number_told, place_told, distance_told, arcs_told};
 
-// A number of a list as an index.
-pub fn wide(x: u32) -> usize
-    ensures { result ≡ x }
-{
-    x as usize
-}
-
-// A 16-bit number of a list as an index.
-pub fn wide16(x: u16) -> usize
-    ensures { result ≡ x }
-{
-    x as usize
-}
+use std::ops::Range;
 
 // The label of a position that has none, and the distance where no walk leads.
 pub const NONE: u64 = 18446744073709551615;
 
 // A cost in tenths of a second, or CLOSED.
-#[derive(Clone, Copy)]
+#[derive(Clone, Copy, PartialEq, Eq, PartialOrd, Ord)]
 pub struct Cost(pub u32);
 
 impl Cost {
@@ -51,23 +40,14 @@ impl Cost {
     pub fn least(a: Cost, b: Cost) -> Cost
         ensures { result ≡ least_of a b }
     {
-        if a.0 <= b.0 {
-            return a;
-        }
-        b
+        a.min(b)
     }
 
     // Two costs are finite and add up to a third: as 64-bit numbers, so that no sum wraps round.
     pub fn add_up(a: Cost, b: Cost, w: Cost) -> bool
         ensures { result ≡ add_up a.0 b.0 w.0 }
     {
-        if a.0 == Cost::CLOSED.0 {
-            return false;
-        }
-        if b.0 == Cost::CLOSED.0 {
-            return false;
-        }
-        a.0 as u64 + b.0 as u64 == w.0 as u64
+        a != Cost::CLOSED && b != Cost::CLOSED && a.0 as u64 + b.0 as u64 == w.0 as u64
     }
 
     // A label with this cost added: CLOSED gives none. A label is far below the number for none: a few thousand costs make one.
@@ -75,7 +55,7 @@ impl Cost {
         requires { label + closed < none }
         ensures { result ≡ label_over label self.0 }
     {
-        if self.0 == Cost::CLOSED.0 {
+        if self == Cost::CLOSED {
             return NONE;
         }
         label + self.0 as u64
@@ -83,15 +63,15 @@ impl Cost {
 }
 
 // A junction's number: roads, order entries and questions speak of junctions.
-#[derive(Clone, Copy)]
+#[derive(Clone, Copy, PartialEq, Eq, PartialOrd, Ord)]
 pub struct Junction(pub u32);
 
 // A position in the order: the shortcut graph speaks of positions.
-#[derive(Clone, Copy)]
+#[derive(Clone, Copy, PartialEq, Eq, PartialOrd, Ord)]
 pub struct Position(pub u32);
 
 // Along an edge from its lower end to its higher end, or the other way.
-#[derive(Clone, Copy)]
+#[derive(Clone, Copy, PartialEq, Eq)]
 pub enum Direction {
     Up,
     Down,
@@ -109,15 +89,8 @@ impl Direction {
     }
 }
 
-// What the search of a row answers: the place of the wanted edge, or that there is none.
-#[derive(Clone, Copy)]
-pub enum Found {
-    At(usize),
-    Nothing,
-}
-
 // Why a call refuses: a case for each of the papers' numbers 1 to 17, with the place where that is not always 0.
-#[derive(Clone, Copy)]
+#[derive(Clone, Copy, PartialEq, Eq)]
 pub enum Refusal {
     JunctionCount,
     ArcLists,
@@ -169,233 +142,113 @@ impl Refusal {
         ensures { result ≡ refusal_place self }
     {
         match self {
-            Refusal::ArcEnd(arc) => arc,
+            Refusal::ArcEnd(arc) | Refusal::ArcWithoutEdge(arc) | Refusal::ArcCost(arc) => arc,
             Refusal::OrderEntry(position) => position,
-            Refusal::ArcWithoutEdge(arc) => arc,
-            Refusal::ArcCost(arc) => arc,
             Refusal::Text(line) => line,
             Refusal::TooFar(junction) => junction,
-            Refusal::JunctionCount => 0,
-            Refusal::ArcLists => 0,
-            Refusal::RankOrFirstRoom => 0,
-            Refusal::HeadsRoom => 0,
-            Refusal::NotAHierarchy => 0,
-            Refusal::CostLists => 0,
-            Refusal::StartOrTarget => 0,
-            Refusal::RouteRoom => 0,
-            Refusal::PieceFitsNothing => 0,
-            Refusal::DistanceRoom => 0,
-            Refusal::ArcNumber => 0,
+            _ => 0,
         }
     }
 }
 
-// What build answers.
+// A net in four lent lists: of each arc its tail, head and cost, and for each position the junction that stands there.
 #[derive(Clone, Copy)]
-pub enum BuildAnswer {
-    Edges(usize),
-    Refused(Refusal),
+pub struct Net<'a> {
+    pub tails: &'a [u32],
+    pub heads: &'a [u32],
+    pub costs: &'a [u32],
+    pub order: &'a [u32],
 }
 
-// What a call answers that only fills lists: customise and the sweeps.
+// The shortcut graph in two lent lists: the row of position p occupies the places of `heads` from first[p] up to first[p + 1].
 #[derive(Clone, Copy)]
-pub enum FillAnswer {
-    Done,
-    Refused(Refusal),
+pub struct Graph<'a> {
+    pub first: &'a [u32],
+    pub heads: &'a [u32],
 }
 
-// What change answers: how many lower triangles of reconsidered edges were looked at.
+impl<'a> Graph<'a> {
+    // The places of the row of p.
+    pub fn places(&self, p: usize) -> Range<usize>
+        requires { p + 1 < length self.now.first.now }
+        ensures start { result.start ≡ get_or self.now.first.now p 0 }
+        ensures end { result.end ≡ get_or self.now.first.now (p + 1) 0 }
+    {
+        self.first[p] as usize..self.first[p + 1] as usize
+    }
+}
+
+// The shortcut costs in two lent lists: of each edge by its place, up and down.
 #[derive(Clone, Copy)]
-pub enum ChangeAnswer {
-    Triangles(u64),
-    Refused(Refusal),
+pub struct EdgeCosts<'a> {
+    pub up: &'a [u32],
+    pub down: &'a [u32],
 }
 
-// What distance answers: tenths of a second, or that no walk leads there.
+impl<'a> EdgeCosts<'a> {
+    // The list for a direction.
+    pub fn along(&self, d: Direction) -> &'a [u32]
+        ensures { result.now ≡ chosen d (lent_costs self.now) }
+    {
+        match d {
+            Direction::Up => self.up,
+            Direction::Down => self.down,
+        }
+    }
+}
+
+// A route's distance in tenths of a second, and the number of arcs now in the route list.
 #[derive(Clone, Copy)]
-pub enum DistanceAnswer {
-    Tenths(u64),
-    NoWalk,
-    Refused(Refusal),
+pub struct Drive {
+    pub distance: u64,
+    pub arcs: usize,
 }
 
-// What route answers: the distance and the number of arcs now in the route list.
-#[derive(Clone, Copy)]
-pub enum RouteAnswer {
-    Drive { distance: u64, arcs: usize },
-    NoWalk,
-    Refused(Refusal),
-}
-
-impl BuildAnswer {
-    // The paper's number of the refusal, 0 when accepted.
-    pub fn number(self) -> u32
-        ensures { result ≡ number_told (build_reply self) }
-    {
-        match self {
-            BuildAnswer::Edges(_) => 0,
-            BuildAnswer::Refused(refusal) => refusal.number(),
-        }
-    }
-
-    // The paper's place of the refusal, 0 when accepted.
-    pub fn place(self) -> usize
-        ensures { result ≡ place_told (build_reply self) }
-    {
-        match self {
-            BuildAnswer::Edges(_) => 0,
-            BuildAnswer::Refused(refusal) => refusal.place(),
-        }
-    }
-
-    // E, 0 after a refusal.
-    pub fn edges(self) -> usize
-        ensures { result ≡ edges_told (build_reply self) }
-    {
-        match self {
-            BuildAnswer::Edges(e) => e,
-            BuildAnswer::Refused(_) => 0,
-        }
+// The paper's number of the refusal, 0 when accepted: of any call, as what an accepted call replies has no number.
+pub fn number_told<X>(answer: &Result<X, Refusal>) -> u32
+    ensures { (told : X → Reply) → ((x : X) → number_told (told x) ≡ 0) → result ≡ number_told (reply_of told answer.now) }
+{
+    match answer {
+        Ok(_) => 0,
+        Err(refusal) => refusal.number(),
     }
 }
 
-impl FillAnswer {
-    // The paper's number of the refusal, 0 when accepted.
-    pub fn number(self) -> u32
-        ensures { result ≡ number_told (fill_reply self) }
-    {
-        match self {
-            FillAnswer::Done => 0,
-            FillAnswer::Refused(refusal) => refusal.number(),
-        }
-    }
-
-    // The paper's place of the refusal, 0 when accepted.
-    pub fn place(self) -> usize
-        ensures { result ≡ place_told (fill_reply self) }
-    {
-        match self {
-            FillAnswer::Done => 0,
-            FillAnswer::Refused(refusal) => refusal.place(),
-        }
+// The paper's place of the refusal, 0 when accepted: likewise of any call.
+pub fn place_told<X>(answer: &Result<X, Refusal>) -> usize
+    ensures { (told : X → Reply) → ((x : X) → place_told (told x) ≡ 0) → result ≡ place_told (reply_of told answer.now) }
+{
+    match answer {
+        Ok(_) => 0,
+        Err(refusal) => refusal.place(),
     }
 }
 
-impl ChangeAnswer {
-    // The paper's number of the refusal, 0 when accepted.
-    pub fn number(self) -> u32
-        ensures { result ≡ number_told (change_reply self) }
-    {
-        match self {
-            ChangeAnswer::Triangles(_) => 0,
-            ChangeAnswer::Refused(refusal) => refusal.number(),
-        }
-    }
-
-    // The paper's place of the refusal, 0 when accepted.
-    pub fn place(self) -> usize
-        ensures { result ≡ place_told (change_reply self) }
-    {
-        match self {
-            ChangeAnswer::Triangles(_) => 0,
-            ChangeAnswer::Refused(refusal) => refusal.place(),
-        }
-    }
-
-    // The lower triangles that were looked at, 0 after a refusal.
-    pub fn triangles(self) -> u64
-        ensures { result ≡ triangles_told (change_reply self) }
-    {
-        match self {
-            ChangeAnswer::Triangles(t) => t,
-            ChangeAnswer::Refused(_) => 0,
-        }
+// The distance, NONE where no walk leads, 0 after a refusal.
+pub fn distance_told(answer: &Result<Option<u64>, Refusal>) -> u64
+    ensures { result ≡ distance_told (distance_reply answer.now) }
+{
+    match answer {
+        Ok(Some(distance)) => *distance,
+        Ok(None) => NONE,
+        Err(_) => 0,
     }
 }
 
-impl DistanceAnswer {
-    // The paper's number of the refusal, 0 when accepted.
-    pub fn number(self) -> u32
-        ensures { result ≡ number_told (distance_reply self) }
-    {
-        match self {
-            DistanceAnswer::Tenths(_) => 0,
-            DistanceAnswer::NoWalk => 0,
-            DistanceAnswer::Refused(refusal) => refusal.number(),
-        }
-    }
-
-    // The paper's place of the refusal, 0 when accepted.
-    pub fn place(self) -> usize
-        ensures { result ≡ place_told (distance_reply self) }
-    {
-        match self {
-            DistanceAnswer::Tenths(_) => 0,
-            DistanceAnswer::NoWalk => 0,
-            DistanceAnswer::Refused(refusal) => refusal.place(),
-        }
-    }
-
-    // The distance, NONE where no walk leads, 0 after a refusal.
-    pub fn distance(self) -> u64
-        ensures { result ≡ distance_told (distance_reply self) }
-    {
-        match self {
-            DistanceAnswer::Tenths(d) => d,
-            DistanceAnswer::NoWalk => NONE,
-            DistanceAnswer::Refused(_) => 0,
-        }
-    }
-}
-
-impl RouteAnswer {
-    // The paper's number of the refusal, 0 when accepted.
-    pub fn number(self) -> u32
-        ensures { result ≡ number_told (route_reply self) }
-    {
-        match self {
-            RouteAnswer::Drive {
-                distance: _,
-                arcs: _,
-            } => 0,
-            RouteAnswer::NoWalk => 0,
-            RouteAnswer::Refused(refusal) => refusal.number(),
-        }
-    }
-
-    // The paper's place of the refusal, 0 when accepted.
-    pub fn place(self) -> usize
-        ensures { result ≡ place_told (route_reply self) }
-    {
-        match self {
-            RouteAnswer::Drive {
-                distance: _,
-                arcs: _,
-            } => 0,
-            RouteAnswer::NoWalk => 0,
-            RouteAnswer::Refused(refusal) => refusal.place(),
-        }
-    }
-
-    // The distance, NONE where no walk leads, 0 after a refusal.
-    pub fn distance(self) -> u64
-        ensures { result ≡ distance_told (route_reply self) }
-    {
-        match self {
-            RouteAnswer::Drive { distance, arcs: _ } => distance,
-            RouteAnswer::NoWalk => NONE,
-            RouteAnswer::Refused(_) => 0,
-        }
-    }
-
-    // The number of arcs of the route, 0 for none and after a refusal.
-    pub fn arcs(self) -> usize
-        ensures { result ≡ arcs_told (route_reply self) }
-    {
-        match self {
-            RouteAnswer::Drive { distance: _, arcs } => arcs,
-            RouteAnswer::NoWalk => 0,
-            RouteAnswer::Refused(_) => 0,
-        }
+// The route's distance, NONE where no walk leads, and its number of arcs, 0 then; both 0 after a refusal.
+pub fn drive_told(answer: &Result<Option<Drive>, Refusal>) -> Drive
+    ensures distance { result.distance ≡ distance_told (route_reply answer.now) }
+    ensures arcs { result.arcs ≡ arcs_told (route_reply answer.now) }
+{
+    match answer {
+        Ok(Some(drive)) => *drive,
+        Ok(None) => Drive {
+            distance: NONE,
+            arcs: 0,
+        },
+        Err(_) => Drive {
+            distance: 0,
+            arcs: 0,
+        },
     }
 }

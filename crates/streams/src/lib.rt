@@ -1,43 +1,25 @@
-// Bytes read to the end of the input, and bytes written, each with its failure told.
+// Bytes read to the end of the input, and bytes written, each failure told on standard error.
 #![tactic(auto)]
 
-ghost use Rattle.std.specs.Prelude.{length};
-ghost use Rattle.streams.specs.Got.{Came, Within};
+ghost use Rattle.std.specs.Prelude.{IfOk};
+ghost use Rattle.streams.specs.Got.{IsPrefixLen};
 
-use std::io::{Print, Read, Stderr, Stdout};
+use std::io::{Print, Read, Result, Stderr, Stdout};
 
-// How many bytes came, or that a read failed.
-#[derive(Clone, Copy)]
-pub enum Got {
-    Bytes(usize),
-    Failed,
-}
-
-// One read, which may bring fewer bytes than there is room for; none at the end of the input.
-fn read_some(input: &mut impl Read, buf: &mut [u8]) -> Got
-    ensures { Within result (length buf.old) }
-{
-    match input.read(buf) {
-        Ok(got) => Got::Bytes(got),
-        Err(_) => Got::Failed,
-    }
-}
-
-// Reads until the input ends or buf is full. A read that fails is not taken for the end of the input.
-pub fn read_all(input: &mut impl Read, buf: &mut [u8]) -> Got
-    ensures { Came result buf.new }
+// Reads until the input ends or buf is full, and tells how many bytes came. A read that fails is not taken for the end of the input.
+// A loop of our own: what std has for this, `read_to_end`, needs a heap, and `read_exact` does not tell how many bytes came.
+pub fn read_all(input: &mut impl Read, buf: &mut [u8]) -> Result<usize>
+    ensures { IfOk result (λ n. IsPrefixLen n buf.new) }
 {
     let mut done = 0;
     while done < buf.len() {
-        let Got::Bytes(more) = read_some(input, &mut buf[done..]) else {
-            return Got::Failed;
-        };
+        let more = input.read(&mut buf[done..])?;
         if more == 0 {
-            return Got::Bytes(done);
+            return Ok(done);
         }
         done += more;
     }
-    Got::Bytes(done)
+    Ok(done)
 }
 
 // A line on standard error: a program's name, and what failed. Where it cannot be written there is nobody to tell.

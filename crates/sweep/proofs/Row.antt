@@ -6,16 +6,7 @@ use lib.Dec.{eqb}
 use Rattle.rules.specs.Words.{least}
 use Rattle.rules.specs.Costs.{closed, label_over}
 use Rattle.theory.proofs.Words.{either, split, least_start}
-use Rattle.sweep.specs.Swept.{far, cap, step_of}
-
--- no step is over FAR: a cost is a 32-bit number
-pub step_far : (cost : ℕ) → cost ≤ closed → step_of cost ≤ far
-step_far cost h = either (split (eqb cost closed)) (λ e. rw e (omega arith)) (λ e. rw e (omega arith))
-
--- what the lesser of two is, where a step has been added
-pub lesser_is : (best known cost : ℕ) → best ≤ far → known ≤ far → min best (known + step_of cost) ≡ min best (cap (label_over known cost))
-lesser_is best known cost b k =
-    either (split (eqb cost closed)) (λ e. rw e (omega arith)) (λ e. rw e (omega arith))
+use Rattle.sweep.specs.Swept.{far, cap}
 
 -- a cost added to a capped label, or to the label itself
 pub cap_over : (label cost : ℕ) → cap (label_over (cap label) cost) ≡ cap (label_over label cost)

@@ -19,7 +19,8 @@ use Rattle.theory.specs.Rows.{count, Lists}
 use Rattle.theory.proofs.Rows.{linked_turn, linked_i}
 use Rattle.theory.proofs.Sweep.{reach_higher}
 use Rattle.theory.proofs.Words.{either, split, true_holds, true_false, holds_true, least_start, least_le, least_above}
-use Rattle.lists.specs.Lent.{part, chosen}
+use Rattle.rules.specs.Lent.{chosen}
+use Rattle.lists.specs.Lent.{part}
 use Rattle.distance.specs.Labelled.{Climbed}
 use Rattle.distance.proofs.Parent.{RowEnds}
 use Rattle.distance.proofs.RowPart.{row_at_lem, row_within, row_entry, costs_long, cost_at}
@@ -129,35 +130,17 @@ module _ {G : Graph} {C : EdgeCosts} (L : Lists G C) {d : Direction} {s p from t
 
 -- ---- the loop
 
--- the positions from p on are done, and the row of the one below p ends where that of p begins
-pub record Going (G : Graph) (C : EdgeCosts) (d : Direction) (p to : ℕ) (labels known : List ℕ) : Type 0 where
-  pub within : p ≤ count G.first
-  pub end_is : to ≡ get_or G.first p 0
-  pub swept : SweptDown G C d p labels known
-
-pub going_start : {G : Graph} {C : EdgeCosts} {d : Direction} {p to : ℕ} (labels : List ℕ) → p ≡ count G.first → to ≡ get_or G.first p 0
-    → Going G C d p to labels labels
-going_start {G} {C} {d} labels e f =
-    record { within = omega arith; end_is = f; swept = λ s R. subst (λ k. Reached G C d s k labels) (sym e) R }
-
-module _ {G : Graph} {C : EdgeCosts} (L : Lists G C) {d : Direction} {p from to : ℕ} {labels known : List ℕ} (K : Going G C d p to labels known)
-    (h : 0 < p) (f : from ≡ get_or G.first (p - 1) 0) where
-  -- the row of the next position
-  pub ends : RowEnds G (p - 1) from to
-  ends =
-      let e : p ≡ p - 1 + 1 = omega arith in
-      record { below = omega (arith, K.within); from_is = f; to_is = K.end_is ∙ ap (λ k. get_or G.first k 0) e }
-
+module _ {G : Graph} {C : EdgeCosts} (L : Lists G C) {d : Direction} {p from to : ℕ} {labels known : List ℕ} (K : SweptDown G C d p labels known)
+    (h : 0 < p) (E : RowEnds G (p - 1) from to) where
   above : (s : ℕ) → Reached G C d s (count G.first) labels → Reached G C d s (suc (p - 1)) known
-  above s R = let e : p ≡ suc (p - 1) = omega arith in subst (λ k. Reached G C d s k known) e (K.swept s R)
+  above s R = let e : p ≡ suc (p - 1) = omega arith in subst (λ k. Reached G C d s k known) e (K s R)
 
   -- what `least_over` asks
-  pub going_row : Labelled G C d labels → RowDown (part from to G.heads) (part from to (chosen (opposite d) C)) known
-  going_row (s, R) = row_down L (above s R) ends
+  pub swept_row : Labelled G C d labels → RowDown (part from to G.heads) (part from to (chosen (opposite d) C)) known
+  swept_row (s, R) = row_down L (above s R) E
 
   -- one position more
-  pub going_more : (v : ℕ)
+  pub swept_more : (v : ℕ)
       → v ≡ least (place_gives (part from to G.heads) (part from to (chosen (opposite d) C)) known) (cap (get_or known (p - 1) 0)) (length (part from to G.heads))
-      → Going G C d (p - 1) from labels (set known (p - 1) v)
-  going_more v e =
-      record { within = omega (arith, K.within); end_is = f; swept = λ s R. reached_more L (above s R) ends v e }
+      → SweptDown G C d (p - 1) labels (set known (p - 1) v)
+  swept_more v e s R = reached_more L (above s R) E v e

@@ -1,8 +1,12 @@
 -- From a call's answer to the plain numbers. Assumes nothing.
 use Prim.Native.Nat.{ℕ}
-use mathlib.Core.Path.{◌≡◌, ap}
+use mathlib.Core.Path.{◌≡◌, refl, ap}
+use Rattle.std.specs.Prelude.{Option, Some, None, Result, Ok, Err}
+use Rattle.std.specs.Result.{result_unwrap_or}
+use Rattle.rules.specs.declared.Drive.{Drive}
+use Rattle.rules.specs.declared.Refusal.{Refusal}
 use mathlib.Core.List.{List}
-use Rattle.rules.specs.Replies.{Reply, number_told, place_told, edges_told, distance_told, arcs_told, triangles_told}
+use Rattle.rules.specs.Replies.{Reply, build_reply, change_reply, distance_found, route_found, number_told, place_told, edges_told, distance_told, arcs_told, triangles_told}
 use Rattle.rules.specs.Calls.{BuildLeaves, build_left, CustomiseLeaves, customise_left, ChangeLeaves, change_left, DistanceLeaves, distance_left, SweepLeaves, sweep_left, RouteLeaves, route_left}
 use Rattle.tablet.specs.Numbers.{build_numbers, build_told, customise_numbers, customise_told, change_numbers, change_told, distance_numbers, distance_told_of, sweep_numbers, sweep_told, route_numbers, route_told}
 use Rattle.rules.specs.Graph.{Graph}
@@ -31,3 +35,31 @@ told_sweep r n p distances l en ep el = rw (en, ep) (ap sweep_told el)
 pub told_route : (r : Reply) (n p d k : ℕ) (route : List ℕ) (l : RouteLeaves) → n ≡ number_told r → p ≡ place_told r → d ≡ distance_told r → k ≡ arcs_told r
     → route_left route r ≡ l → route_numbers n p d k route ≡ route_told l
 told_route r n p d k route l en ep ed ek el = rw (en, ep, ed, ek) (ap route_told el)
+
+-- ---- what an accepted call tells is no refusal
+
+pub distance_number : (found : Option ℕ) → number_told (distance_found found) ≡ 0
+distance_number (Some d) = refl
+distance_number None = refl
+
+pub distance_place : (found : Option ℕ) → place_told (distance_found found) ≡ 0
+distance_place (Some d) = refl
+distance_place None = refl
+
+pub route_number : (found : Option Drive) → number_told (route_found found) ≡ 0
+route_number (Some r) = refl
+route_number None = refl
+
+pub route_place : (found : Option Drive) → place_told (route_found found) ≡ 0
+route_place (Some r) = refl
+route_place None = refl
+
+-- ---- the number that a call tells, 0 after a refusal
+
+pub edges_or : (a : Result ℕ Refusal) {e : ℕ} → e ≡ result_unwrap_or a 0 → e ≡ edges_told (build_reply a)
+edges_or (Ok x) h = h
+edges_or (Err r) h = h
+
+pub looked_or : (a : Result ℕ Refusal) {t : ℕ} → t ≡ result_unwrap_or a 0 → t ≡ triangles_told (change_reply a)
+looked_or (Ok x) h = h
+looked_or (Err r) h = h

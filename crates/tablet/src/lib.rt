@@ -11,7 +11,7 @@ ghost use Rattle.tablet.specs.Version.{version};
 ghost use Rattle.tablet.specs.Numbers.{build_numbers, build_told, customise_numbers, customise_told, change_numbers, change_told, distance_numbers, distance_told_of, sweep_numbers, sweep_told, route_numbers, route_told};
 
 use griezmuld::{build, change, customise, distance, route, sweep_from, sweep_to};
-use rules::{Cost, Junction, wide};
+use rules::{Cost, Junction, drive_told, number_told, place_told};
 
 // The release that this archive is of, as include/griezmuld.h writes it: major * 10000 + minor * 100 + patch.
 pub const VERSION: u32 = 10301;
@@ -39,9 +39,9 @@ pub extern "C" fn griezmuld_build(
     ensures { build_numbers result place.new edges.new rank.new (graph first.new row_heads.new) ≡ build_told (build_leaves tails.now heads.now order.now rank.old (graph first.old row_heads.old)) }
 {
     let built = build(tails, heads, order, rank, first, row_heads);
-    *place = built.place() as u64;
-    *edges = built.edges() as u64;
-    built.number()
+    *place = place_told(&built) as u64;
+    *edges = built.unwrap_or(0) as u64;
+    number_told(&built)
 }
 
 // Costs to shortcut costs.
@@ -61,8 +61,8 @@ pub extern "C" fn griezmuld_customise(
     ensures { customise_numbers result place.new (edge_costs up.new down.new) ≡ customise_told (customise_leaves (net tails.now heads.now costs.now order.now) rank.now (graph first.now row_heads.now) (edge_costs up.old down.old)) }
 {
     let customised = customise(tails, heads, costs, order, rank, first, row_heads, up, down);
-    *place = customised.place() as u64;
-    customised.number()
+    *place = place_told(&customised) as u64;
+    number_told(&customised)
 }
 
 // A new cost of one arc.
@@ -94,12 +94,12 @@ pub extern "C" fn griezmuld_change(
         row_heads,
         up,
         down,
-        wide(arc),
+        arc as usize,
         Cost(cost),
     );
-    *place = changed.place() as u64;
-    *triangles = changed.triangles();
-    changed.number()
+    *place = place_told(&changed) as u64;
+    *triangles = changed.unwrap_or(0);
+    number_told(&changed)
 }
 
 // The distance between two junctions.
@@ -128,9 +128,9 @@ pub extern "C" fn griezmuld_distance<'a>(
         Junction(from),
         Junction(to),
     );
-    *place = found.place() as u64;
-    *distance_told = found.distance();
-    found.number()
+    *place = place_told(&found) as u64;
+    *distance_told = rules::distance_told(&found);
+    number_told(&found)
 }
 
 // The distance from one junction to every junction.
@@ -158,8 +158,8 @@ pub extern "C" fn griezmuld_sweep_from<'a>(
         Junction(from),
         distances,
     );
-    *place = swept.place() as u64;
-    swept.number()
+    *place = place_told(&swept) as u64;
+    number_told(&swept)
 }
 
 // The distance from every junction to one.
@@ -187,8 +187,8 @@ pub extern "C" fn griezmuld_sweep_to<'a>(
         Junction(to),
         distances,
     );
-    *place = swept.place() as u64;
-    swept.number()
+    *place = place_told(&swept) as u64;
+    number_told(&swept)
 }
 
 // The distance and the route between two junctions.
@@ -226,8 +226,9 @@ pub extern "C" fn griezmuld_route<'a>(
         Junction(to),
         list,
     );
-    *place = driven.place() as u64;
-    *distance_told = driven.distance();
-    *arcs_told = driven.arcs() as u64;
-    driven.number()
+    let told = drive_told(&driven);
+    *place = place_told(&driven) as u64;
+    *distance_told = told.distance;
+    *arcs_told = told.arcs as u64;
+    number_told(&driven)
 }

@@ -1,4 +1,4 @@
 pub mod ProgramExamples
-pub mod TakenFrom
-pub mod LineOf
 pub mod Noughts
+pub mod Cuts
+pub mod LineOf

@@ -1,28 +1,9 @@
 -- What a line says, read word by word, is what the definition says of its words. Assumes nothing.
-use Prim.Native.Nat.{ℕ, suc, ◌-◌, ◌≤◌}
-use mathlib.Core.Path.{◌≡◌, refl, sym, ap, ◌∙◌}
-use mathlib.Core.Bool.{Bool, true, false, cond, ◌&&◌, and-false}
-use mathlib.Core.List.{List, [], ◌∷◌}
-use mathlib.Core.Logic.{◌⊎◌, inl, inr}
-use native.Mathlib.Omega.{arith}
-use lib.Dec.{eqb, leb}
-use lib.ListN.{length}
-use lib.Seq.{slice}
-use borrow.Author.Tests.{le-leb, ne_eqb}
-use Rattle.text.specs.declared.Kind.TheVariants as kind
-use Rattle.text.specs.declared.Taken.{Taken}
-use Rattle.text.specs.declared.Value.{Value}
-use Rattle.text.specs.declared.Value.TheVariants.{Is, Not}
-use Rattle.text.specs.Bytes.{space, same, cut_at, words, is_number, number_of}
+use Rattle.std.proofs.Common.{ℕ, suc, ◌-◌, ◌≡◌, refl, ◌∙◌, Bool, true, false, cond, ◌&&◌, List, [], ◌∷◌, ◌⊎◌, inl, inr, Option, Some, None, arith, eqb, leb, length, ne_eqb}
+use mathlib.Core.Bool.{and-false}
+use Rattle.text.specs.Bytes.{same, cut_at, is_number, number_of}
 use Rattle.text.specs.Program.{Line, comment, problem, arc, seat, question, other, word, is_junction, is_cost, cost_of_word, is_comment, is_problem, is_arc, is_seat, is_question, line_of}
-use Rattle.text.proofs.TakenFrom.{not_one}
-use Rattle.text.specs.ReadBack.{letter_said, sp_said, number_said, junction_said, cost_said, words_from, FirstWord, first, nothing, taken_back, first_said, taken_from, last, next, problem_said, arc_said, seat_said, question_said}
-
--- ---- what was taken
-
--- what the reader took, once its answer is known
-pub told : (l : List ℕ) (to : ℕ) (r t : Taken) (f : FirstWord) → r ≡ t → taken_back l to r ≡ f → taken_back l to t ≡ f
-told l to r t f e g = sym (ap (taken_back l to) e) ∙ g
+use Rattle.text.specs.ReadBack.{letter_said, sp_said, number_said, junction_said, cost_said, first_said, last, next, problem_said, arc_said, seat_said, question_said}
 
 -- ---- whether a word is left
 
@@ -35,11 +16,6 @@ some_part mark (x ∷ xs) = by (some_part mark xs) (eqb x mark) refl
     by : (p : List ℕ) × (ps : List (List ℕ)) × (cut_at mark xs ≡ p ∷ ps) → (b : Bool) → eqb x mark ≡ b → (p : List ℕ) × (ps : List (List ℕ)) × (cut_at mark (x ∷ xs) ≡ p ∷ ps)
     by r true e = ([], cut_at mark xs, rw e refl)
     by (p, ps, f) false e = (x ∷ p, ps, rw (e, f) refl)
-
--- a word too many makes another line
-pub words_left : (l : List ℕ) (to at : ℕ) (x : Line) → at ≤ to → other ≡ last x (words_from l to at)
-unfolding words_from
-words_left l to at x h = let (p, ps, e) = some_part space (slice at to l) in rw (le-leb at to h, e) refl
 
 -- ---- the first word says which line it is
 
@@ -68,37 +44,28 @@ no_line w ws n =
     (n 99 (inl refl), not_problem w ws (n 112 (inr (inl refl))), not_arc w ws (n 97 (inr (inr (inl refl)))), not_seat w ws (n 111 (inr (inr (inr (inl refl))))), not_question w ws (n 113 (inr (inr (inr (inr refl))))))
     refl
 
--- the first word is not of one byte
-pub no_letter : (l : List ℕ) (to at : ℕ) → at ≤ to → nothing ≡ taken_from kind.Letter (words_from l to at) → other ≡ line_of (words (slice at to l))
-unfolding words_from taken_from letter_said
-no_letter l to at h e =
-    let (p, ps, f) = some_part space (slice at to l) in
-    rw f (no_line p ps (λ x _. sym (not_one p x (λ (q : length p ≡ 1). never (rw (le-leb at to h, f, q) at e)))))
-  where
-    never : {x : ℕ} {ws : List (List ℕ)} → nothing ≡ first x ws → ⊥
-    never {x} {ws} e = let z : ◌≡◌ {A = ℕ} 0 1 = cc in omega arith
+-- a word that is not of one byte is no letter
+not_letter : (w : List ℕ) (x : ℕ) → None ≡ letter_said w → same w (x ∷ []) ≡ false
+unfolding letter_said same
+not_letter [] x e = refl
+not_letter (y ∷ []) x e = cc
+not_letter (y ∷ z ∷ w) x e = and-false (eqb y x)
 
--- the first word is one byte
-pub letter_first : (x : ℕ) (rest ws : List (List ℕ)) → first x rest ≡ taken_from kind.Letter ws → ws ≡ (x ∷ []) ∷ rest
-unfolding taken_from letter_said
-letter_first x rest [] e = cc
-letter_first x rest ([] ∷ ws) e = cc
-letter_first x rest ((y ∷ []) ∷ ws) e = cc
-letter_first x rest ((y ∷ z ∷ w) ∷ ws) e =
-    let f : first x rest ≡ nothing = rw (ne_eqb (suc (suc (length w))) 1 (λ q. omega arith)) at e in cc
-
--- a line by its letter
-pub by_letter : (l : List ℕ) (to at x : ℕ) (rest : List (List ℕ)) → at ≤ to → first x rest ≡ taken_from kind.Letter (words_from l to at) → words (slice at to l) ≡ (x ∷ []) ∷ rest
-unfolding words_from
-by_letter l to at x rest h e = letter_first x rest (words (slice at to l)) (rw (le-leb at to h) at e)
+-- a word of one byte is it
+one_byte : (x : ℕ) (w : List ℕ) → Some x ≡ letter_said w → w ≡ x ∷ []
+unfolding letter_said
+one_byte x [] e = cc
+one_byte x (y ∷ []) e = cc
+one_byte x (y ∷ z ∷ w) e =
+    let g : ◌≡◌ {A = Option ℕ} (Some x) None = rw (ne_eqb (suc (suc (length w))) 1 (λ q. omega arith)) at e in cc
 
 -- a line that begins with each letter
-pub line_c : (ws : List (List ℕ)) → comment ≡ line_of ((99 ∷ []) ∷ ws)
+line_c : (ws : List (List ℕ)) → comment ≡ line_of ((99 ∷ []) ∷ ws)
 unfolding line_of
 line_c ws = refl
 
 -- by another letter
-pub line_x : (x : ℕ) (ws : List (List ℕ)) → (x ≡ 99 → ⊥) → (x ≡ 112 → ⊥) → (x ≡ 97 → ⊥) → (x ≡ 111 → ⊥) → (x ≡ 113 → ⊥) → other ≡ line_of ((x ∷ []) ∷ ws)
+line_x : (x : ℕ) (ws : List (List ℕ)) → (x ≡ 99 → ⊥) → (x ≡ 112 → ⊥) → (x ≡ 97 → ⊥) → (x ≡ 111 → ⊥) → (x ≡ 113 → ⊥) → other ≡ line_of ((x ∷ []) ∷ ws)
 unfolding same
 line_x x ws c p a o q = no_line (x ∷ []) ws (λ y is. rw (ne_eqb x y (none y is)) refl)
   where
@@ -110,13 +77,13 @@ line_x x ws c p a o q = no_line (x ∷ []) ws (λ y is. rw (ne_eqb x y (none y i
     none y (inr (inr (inr (inr e)))) f = q (f ∙ e)
 
 -- where each word leads to another line, so do the words
-all_other : (v : Value) (rest : List (List ℕ)) (f : ℕ → List (List ℕ) → Line) → ((x : ℕ) → f x rest ≡ other) → next (first_said v rest) f ≡ other
-all_other (Is x) rest f h = h x
-all_other Not rest f h = refl
+all_other : (v : Option ℕ) (rest : List (List ℕ)) (f : ℕ → List (List ℕ) → Line) → ((x : ℕ) → f x rest ≡ other) → next (first_said v rest) f ≡ other
+all_other (Some x) rest f h = h x
+all_other None rest f h = refl
 
 -- `o junction`: with a word too many, too
 seat_line : (ws : List (List ℕ)) → seat_said ws ≡ cond (is_seat ((111 ∷ []) ∷ ws)) (seat (number_of (word ws 0) - 1)) other
-unfolding is_seat seat_said taken_from junction_said
+unfolding is_seat seat_said junction_said
 seat_line [] = refl
 seat_line (v ∷ []) = by (is_junction v) refl
   where
@@ -127,13 +94,13 @@ seat_line (v ∷ w ∷ ws) =
     all_other (junction_said v) (w ∷ ws) (λ j ws. last (seat j) ws) (λ j. refl)
     ∙ rw (ne_eqb (suc (suc (suc (length ws)))) 2 (λ q. omega arith)) refl
 
-pub line_o : (ws : List (List ℕ)) → seat_said ws ≡ line_of ((111 ∷ []) ∷ ws)
+line_o : (ws : List (List ℕ)) → seat_said ws ≡ line_of ((111 ∷ []) ∷ ws)
 unfolding line_of is_comment
 line_o ws = seat_line ws ∙ rw (not_problem (111 ∷ []) ws refl, not_arc (111 ∷ []) ws refl, not_question (111 ∷ []) ws refl) refl
 
 -- `q from to`
 question_line : (ws : List (List ℕ)) → question_said ws ≡ cond (is_question ((113 ∷ []) ∷ ws)) (question (number_of (word ws 0) - 1) (number_of (word ws 1) - 1)) other
-unfolding is_question question_said taken_from junction_said
+unfolding is_question question_said junction_said
 question_line [] = refl
 question_line (u ∷ []) = all_other (junction_said u) [] _ (λ j. refl)
 question_line (u ∷ v ∷ []) = by (is_junction u) refl (is_junction v) refl
@@ -146,13 +113,13 @@ question_line (u ∷ v ∷ w ∷ ws) =
     all_other (junction_said u) (v ∷ w ∷ ws) _ (λ a. all_other (junction_said v) (w ∷ ws) _ (λ b. refl))
     ∙ rw (ne_eqb (suc (suc (suc (suc (length ws))))) 3 (λ q. omega arith)) refl
 
-pub line_q : (ws : List (List ℕ)) → question_said ws ≡ line_of ((113 ∷ []) ∷ ws)
+line_q : (ws : List (List ℕ)) → question_said ws ≡ line_of ((113 ∷ []) ∷ ws)
 unfolding line_of is_comment
 line_q ws = question_line ws ∙ rw (not_problem (113 ∷ []) ws refl, not_arc (113 ∷ []) ws refl, not_seat (113 ∷ []) ws refl) refl
 
 -- `a tail head cost`
 arc_line : (ws : List (List ℕ)) → arc_said ws ≡ cond (is_arc ((97 ∷ []) ∷ ws)) (arc (number_of (word ws 0) - 1) (number_of (word ws 1) - 1) (cost_of_word (word ws 2))) other
-unfolding is_arc arc_said taken_from junction_said cost_said
+unfolding is_arc arc_said junction_said cost_said
 arc_line [] = refl
 arc_line (u ∷ []) = all_other (junction_said u) [] _ (λ j. refl)
 arc_line (u ∷ v ∷ []) = all_other (junction_said u) (v ∷ []) _ (λ a. all_other (junction_said v) [] _ (λ b. refl))
@@ -168,13 +135,13 @@ arc_line (u ∷ v ∷ w ∷ x ∷ ws) =
     (λ a. all_other (junction_said v) (w ∷ x ∷ ws) _ (λ b. all_other (cost_said w) (x ∷ ws) _ (λ k. refl)))
     ∙ rw (ne_eqb (suc (suc (suc (suc (suc (length ws)))))) 4 (λ q. omega arith)) refl
 
-pub line_a : (ws : List (List ℕ)) → arc_said ws ≡ line_of ((97 ∷ []) ∷ ws)
+line_a : (ws : List (List ℕ)) → arc_said ws ≡ line_of ((97 ∷ []) ∷ ws)
 unfolding line_of is_comment
 line_a ws = arc_line ws ∙ rw (not_problem (97 ∷ []) ws refl, not_seat (97 ∷ []) ws refl, not_question (97 ∷ []) ws refl) refl
 
 -- `p sp n m`
 problem_line : (ws : List (List ℕ)) → problem_said ws ≡ cond (is_problem ((112 ∷ []) ∷ ws)) (problem (number_of (word ws 1)) (number_of (word ws 2))) other
-unfolding is_problem problem_said taken_from sp_said number_said
+unfolding is_problem problem_said sp_said number_said
 problem_line [] = refl
 problem_line (u ∷ []) = all_other (sp_said u) [] _ (λ j. refl)
 problem_line (u ∷ v ∷ []) = all_other (sp_said u) (v ∷ []) _ (λ a. all_other (number_said v) [] _ (λ b. refl))
@@ -190,6 +157,38 @@ problem_line (u ∷ v ∷ w ∷ x ∷ ws) =
     (λ a. all_other (number_said v) (w ∷ x ∷ ws) _ (λ b. all_other (number_said w) (x ∷ ws) _ (λ k. refl)))
     ∙ rw (ne_eqb (suc (suc (suc (suc (suc (length ws)))))) 4 (λ q. omega arith)) refl
 
-pub line_p : (ws : List (List ℕ)) → problem_said ws ≡ line_of ((112 ∷ []) ∷ ws)
+line_p : (ws : List (List ℕ)) → problem_said ws ≡ line_of ((112 ∷ []) ∷ ws)
 unfolding line_of is_comment
 line_p ws = problem_line ws ∙ rw (not_arc (112 ∷ []) ws refl, not_seat (112 ∷ []) ws refl, not_question (112 ∷ []) ws refl) refl
+
+-- ---- a line by its first word
+
+-- it has none
+pub line_none : (ws : List (List ℕ)) → ws ≡ [] → other ≡ line_of ws
+unfolding line_of
+line_none ws e = rw e refl
+
+module _ (w : List ℕ) (rest ws : List (List ℕ)) (e : ws ≡ w ∷ rest) where
+  -- it is no letter
+  pub line_unlettered : None ≡ letter_said w → other ≡ line_of ws
+  line_unlettered f = rw e (no_line w rest (λ x _. not_letter w x f))
+
+  -- each letter
+  pub line_by_c : Some 99 ≡ letter_said w → comment ≡ line_of ws
+  line_by_c f = rw (e, one_byte 99 w f) (line_c rest)
+
+  pub line_by_p : Some 112 ≡ letter_said w → problem_said rest ≡ line_of ws
+  line_by_p f = rw (e, one_byte 112 w f) (line_p rest)
+
+  pub line_by_a : Some 97 ≡ letter_said w → arc_said rest ≡ line_of ws
+  line_by_a f = rw (e, one_byte 97 w f) (line_a rest)
+
+  pub line_by_o : Some 111 ≡ letter_said w → seat_said rest ≡ line_of ws
+  line_by_o f = rw (e, one_byte 111 w f) (line_o rest)
+
+  pub line_by_q : Some 113 ≡ letter_said w → question_said rest ≡ line_of ws
+  line_by_q f = rw (e, one_byte 113 w f) (line_q rest)
+
+  -- another letter
+  pub line_by_other : (x : ℕ) → Some x ≡ letter_said w → (x ≡ 99 → ⊥) → (x ≡ 112 → ⊥) → (x ≡ 97 → ⊥) → (x ≡ 111 → ⊥) → (x ≡ 113 → ⊥) → other ≡ line_of ws
+  line_by_other x f c p a o q = rw (e, one_byte x w f) (line_x x rest c p a o q)

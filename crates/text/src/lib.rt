@@ -1,43 +1,13 @@
-// The program's text, word by word: what a line says. A cursor goes along the line by value; each answer holds the next one.
+// The program's text, word by word: what a line says.
 #![tactic(auto)]
 
-ghost use Rattle.std.specs.Prelude.{◌≤◌, ◌<◌, ◌≡◌, length};
-ghost use Rattle.std.proofs.Math.Seq.{slice};
+ghost use Rattle.std.specs.Prelude.{◌≡◌, length};
+ghost use Rattle.std.specs.Iterator.{YieldsFirstRef, item_count};
 ghost use Rattle.text.specs.Program.{line_of};
-ghost use Rattle.text.specs.Bytes.{words};
-ghost use Rattle.text.specs.ReadBack.{PartEnd, is_called, letter_said, sp_said, number_said, junction_said, cost_said, value_said, words_from, taken_from, taken_back, line_back, problem_said, arc_said, seat_said, question_said};
+ghost use Rattle.text.specs.Bytes.{cut_at, words};
+ghost use Rattle.text.specs.ReadBack.{PartEnd, parts_left, letter_said, number_said, junction_said, cost_said, line_back, problem_said, arc_said, seat_said, question_said};
 
 use rules::{Cost, Junction};
-
-// Where reading goes on in a line: past its end when no word is left.
-#[derive(Clone, Copy)]
-pub struct Cursor {
-    pub at: usize,
-}
-
-// What a word is read as: a letter that names a kind of line, the word `sp`, a number, a junction or a cost.
-#[derive(Clone, Copy)]
-pub enum Kind {
-    Letter,
-    Sp,
-    Number,
-    Junction,
-    Cost,
-}
-
-// What a word says, or that it is no word of that kind.
-#[derive(Clone, Copy)]
-pub enum Value {
-    Is(u32),
-    Not,
-}
-
-// What the next word says with the cursor past it, or that no word of that kind comes next.
-#[derive(Clone, Copy)]
-pub enum Taken {
-    Word(u32, Cursor),
-    Nothing,
-}
 
 // What a line says; junctions are counted from 0.
 #[derive(Clone, Copy)]
@@ -47,237 +17,179 @@ pub enum Line {
     Arc(Junction, Junction, Cost),
     Seat(Junction),
     Question(Junction, Junction),
-    Other,
 }
 
-// The first place from `from` on, and before `to`, at which `mark` stands; `to` if there is none.
-pub fn part_end(input: &[u8], from: usize, to: usize, mark: u8) -> usize
-    requires { (from ≤ to) × (to ≤ length input.now) }
-    ensures { PartEnd input.now from to mark result }
+// The first place at which `mark` stands; the length if there is none: a part ends there either way.
+pub fn find(bytes: &[u8], mark: u8) -> usize
+    ensures { PartEnd bytes.now mark result }
 {
-    let mut k = from;
-    while k < to {
-        if input[k] == mark {
-            return k;
+    bytes
+        .iter()
+        .position(|byte| *byte == mark)
+        .unwrap_or(bytes.len())
+}
+
+// The parts of some bytes that are still to be read, cut at each `mark`: the bytes from the next part on, or nothing behind the last.
+#[derive(Clone, Copy)]
+pub struct Parts<'a> {
+    pub rest: Option<&'a [u8]>,
+    pub mark: u8,
+}
+
+impl<'a> Parts<'a> {
+    // All parts of some bytes: the lines of a text, the words of a line.
+    pub fn new(bytes: &'a [u8], mark: u8) -> Self
+        ensures { parts_left result ≡ cut_at mark bytes.now }
+    {
+        Self {
+            rest: Some(bytes),
+            mark,
         }
-        k += 1;
     }
-    to
+}
+
+impl<'a> Iterator for Parts<'a> {
+    type Item = &'a [u8];
+
+    ghost next_gives = { YieldsFirstRef parts_left };
+
+    ghost remaining = { item_count parts_left };
+
+    // The next part, which ends at a mark or at the end of all.
+    fn next(&mut self) -> Option<&'a [u8]> {
+        let rest = self.rest?;
+        let end = find(rest, self.mark);
+        self.rest = rest.get(end + 1..);
+        Some(&rest[..end])
+    }
+}
+
+// The one byte of a word.
+#[tactic(auto, unfolding(crate::specs::ReadBack::letter_said))]
+fn letter(word: &[u8]) -> Option<u8>
+    ensures { result ≡ letter_said word.now }
+{
+    match word {
+        [byte] => Some(*byte),
+        _ => None,
+    }
 }
 
 // The number that a word of one to nine digits says.
-#[tactic(auto, using(crate::proofs::TakenFrom::many_digits))]
-fn number(input: &[u8], from: usize, to: usize) -> Value
-    requires { (from ≤ to) × (to ≤ length input.now) }
-    ensures { result ≡ number_said (slice from to input.now) }
+#[tactic(auto, using(crate::proofs::Cuts::counted_fits, crate::proofs::Cuts::counted_not, crate::proofs::Cuts::counted_all), unfolding(crate::specs::ReadBack::number_said))]
+pub fn number(word: &[u8]) -> Option<u32>
+    ensures { result ≡ number_said word.now }
 {
-    if from == to {
-        return Value::Not;
+    if word.is_empty() {
+        return None;
     }
-    if 9 < to - from {
-        return Value::Not;
+    if 9 < word.len() {
+        return None;
     }
-    let mut value: u32 = 0;
-    let mut k = from;
-    while k < to {
-        let byte = input[k];
-        if byte < b'0' {
-            return Value::Not;
+    let mut value = 0;
+    for byte in word {
+        if !byte.is_ascii_digit() {
+            return None;
         }
-        if b'9' < byte {
-            return Value::Not;
-        }
-        value = value * 10 + (byte - b'0') as u32;
-        k += 1;
+        value = value * 10 + u32::from(*byte - b'0');
     }
-    Value::Is(value)
-}
-
-// A word is the one byte.
-pub fn is_byte(input: &[u8], from: usize, to: usize, byte: u8) -> bool
-    requires { (from ≤ to) × (to ≤ length input.now) }
-    ensures { result ≡ is_called byte (slice from to input.now) }
-{
-    if to - from != 1 {
-        return false;
-    }
-    input[from] == byte
-}
-
-// A word of one byte, as a number.
-fn letter(input: &[u8], from: usize, to: usize) -> Value
-    requires { (from ≤ to) × (to ≤ length input.now) }
-    ensures { result ≡ letter_said (slice from to input.now) }
-{
-    if to - from != 1 {
-        return Value::Not;
-    }
-    Value::Is(input[from] as u32)
-}
-
-// The word `sp`.
-fn sp(input: &[u8], from: usize, to: usize) -> Value
-    requires { (from ≤ to) × (to ≤ length input.now) }
-    ensures { result ≡ sp_said (slice from to input.now) }
-{
-    if to - from != 2 {
-        return Value::Not;
-    }
-    if input[from] != b's' {
-        return Value::Not;
-    }
-    if input[from + 1] != b'p' {
-        return Value::Not;
-    }
-    Value::Is(0)
+    Some(value)
 }
 
 // A junction's number, written from 1 on and counted from 0 on.
-fn junction(input: &[u8], from: usize, to: usize) -> Value
-    requires { (from ≤ to) × (to ≤ length input.now) }
-    ensures { result ≡ junction_said (slice from to input.now) }
+#[tactic(auto, unfolding(crate::specs::ReadBack::number_said, crate::specs::ReadBack::junction_said))]
+pub fn junction(word: &[u8]) -> Option<u32>
+    ensures { result ≡ junction_said word.now }
 {
-    let Value::Is(x) = number(input, from, to) else {
-        return Value::Not;
-    };
-    if x == 0 {
-        return Value::Not;
-    }
-    Value::Is(x - 1)
+    number(word)?.checked_sub(1)
 }
 
 // A cost: a number, or `-` for CLOSED.
-fn cost(input: &[u8], from: usize, to: usize) -> Value
-    requires { (from ≤ to) × (to ≤ length input.now) }
-    ensures { result ≡ cost_said (slice from to input.now) }
+#[tactic(auto, using(crate::proofs::Cuts::same_is), unfolding(crate::specs::ReadBack::number_said, crate::specs::ReadBack::cost_said))]
+pub fn cost(word: &[u8]) -> Option<u32>
+    ensures { result ≡ cost_said word.now }
 {
-    if is_byte(input, from, to, b'-') {
-        return Value::Is(Cost::CLOSED.0);
+    if word == b"-".as_slice() {
+        return Some(Cost::CLOSED.0);
     }
-    number(input, from, to)
-}
-
-// A word by its kind.
-pub fn said(input: &[u8], from: usize, to: usize, kind: Kind) -> Value
-    requires { (from ≤ to) × (to ≤ length input.now) }
-    ensures { result ≡ value_said kind (slice from to input.now) }
-{
-    match kind {
-        Kind::Letter => letter(input, from, to),
-        Kind::Sp => sp(input, from, to),
-        Kind::Number => number(input, from, to),
-        Kind::Junction => junction(input, from, to),
-        Kind::Cost => cost(input, from, to),
-    }
-}
-
-// The next word of a line that ends at `end`.
-fn take_word(input: &[u8], cursor: Cursor, end: usize, kind: Kind) -> Taken
-    requires { end < length input.now }
-    ensures { taken_back input.now end result ≡ taken_from kind (words_from input.now end cursor.at) }
-{
-    let from = cursor.at;
-    if end < from {
-        return Taken::Nothing;
-    }
-    let to = part_end(input, from, end, b' ');
-    let Value::Is(x) = said(input, from, to, kind) else {
-        return Taken::Nothing;
-    };
-    Taken::Word(x, Cursor { at: to + 1 })
+    number(word)
 }
 
 // What follows `p`: the word `sp`, how many junctions and how many arcs.
-fn problem_line(input: &[u8], cursor: Cursor, end: usize) -> Line
-    requires { end < length input.now }
-    ensures { line_back result ≡ problem_said (words_from input.now end cursor.at) }
+// Four readers: kinds and number of words differ; what they share is `next()?` and that nothing is left.
+#[tactic(auto, using(crate::proofs::Cuts::same_is), unfolding(crate::specs::ReadBack::problem_said, crate::specs::ReadBack::sp_said))]
+fn problem_line(mut words: Parts) -> Option<Line>
+    ensures { line_back result ≡ problem_said (parts_left words.entry) }
 {
-    let Taken::Word(_, second) = take_word(input, cursor, end, Kind::Sp) else {
-        return Line::Other;
-    };
-    let Taken::Word(n, third) = take_word(input, second, end, Kind::Number) else {
-        return Line::Other;
-    };
-    let Taken::Word(m, rest) = take_word(input, third, end, Kind::Number) else {
-        return Line::Other;
-    };
-    if rest.at <= end {
-        return Line::Other;
+    if words.next()? != b"sp".as_slice() {
+        return None;
     }
-    if 256 < n {
-        return Line::Other;
+    let junctions = number(words.next()?)?;
+    let arcs = number(words.next()?)?;
+    if words.next().is_some() {
+        return None;
     }
-    if 1024 < m {
-        return Line::Other;
+    if 256 < junctions {
+        return None;
     }
-    Line::Problem(n, m)
+    if 1024 < arcs {
+        return None;
+    }
+    Some(Line::Problem(junctions, arcs))
 }
 
 // What follows `a`: tail, head and cost.
-fn arc_line(input: &[u8], cursor: Cursor, end: usize) -> Line
-    requires { end < length input.now }
-    ensures { line_back result ≡ arc_said (words_from input.now end cursor.at) }
+#[tactic(auto, unfolding(crate::specs::ReadBack::arc_said))]
+fn arc_line(mut words: Parts) -> Option<Line>
+    ensures { line_back result ≡ arc_said (parts_left words.entry) }
 {
-    let Taken::Word(tail, second) = take_word(input, cursor, end, Kind::Junction) else {
-        return Line::Other;
-    };
-    let Taken::Word(head, third) = take_word(input, second, end, Kind::Junction) else {
-        return Line::Other;
-    };
-    let Taken::Word(price, rest) = take_word(input, third, end, Kind::Cost) else {
-        return Line::Other;
-    };
-    if rest.at <= end {
-        return Line::Other;
+    let tail = junction(words.next()?)?;
+    let head = junction(words.next()?)?;
+    let price = cost(words.next()?)?;
+    if words.next().is_some() {
+        return None;
     }
-    Line::Arc(Junction(tail), Junction(head), Cost(price))
+    Some(Line::Arc(Junction(tail), Junction(head), Cost(price)))
 }
 
 // What follows `o`: a junction.
-fn seat_line(input: &[u8], cursor: Cursor, end: usize) -> Line
-    requires { end < length input.now }
-    ensures { line_back result ≡ seat_said (words_from input.now end cursor.at) }
+#[tactic(auto, unfolding(crate::specs::ReadBack::seat_said))]
+fn seat_line(mut words: Parts) -> Option<Line>
+    ensures { line_back result ≡ seat_said (parts_left words.entry) }
 {
-    let Taken::Word(j, rest) = take_word(input, cursor, end, Kind::Junction) else {
-        return Line::Other;
-    };
-    if rest.at <= end {
-        return Line::Other;
+    let seat = junction(words.next()?)?;
+    if words.next().is_some() {
+        return None;
     }
-    Line::Seat(Junction(j))
+    Some(Line::Seat(Junction(seat)))
 }
 
 // What follows `q`: two junctions.
-fn question_line(input: &[u8], cursor: Cursor, end: usize) -> Line
-    requires { end < length input.now }
-    ensures { line_back result ≡ question_said (words_from input.now end cursor.at) }
+#[tactic(auto, unfolding(crate::specs::ReadBack::question_said))]
+fn question_line(mut words: Parts) -> Option<Line>
+    ensures { line_back result ≡ question_said (parts_left words.entry) }
 {
-    let Taken::Word(from, second) = take_word(input, cursor, end, Kind::Junction) else {
-        return Line::Other;
-    };
-    let Taken::Word(to, rest) = take_word(input, second, end, Kind::Junction) else {
-        return Line::Other;
-    };
-    if rest.at <= end {
-        return Line::Other;
+    let from = junction(words.next()?)?;
+    let to = junction(words.next()?)?;
+    if words.next().is_some() {
+        return None;
     }
-    Line::Question(Junction(from), Junction(to))
+    Some(Line::Question(Junction(from), Junction(to)))
 }
 
-// A line from its first byte up to its LF: the first word, `c`, `p`, `a`, `o` or `q`, says how the others are read.
-pub fn read_line(input: &[u8], at: usize, end: usize) -> Line
-    requires { (at ≤ end) × (end < length input.now) }
-    ensures { line_back result ≡ line_of (words (slice at end input.now)) }
+// A line without its LF: the first word, `c`, `p`, `a`, `o` or `q`, says how the others are read; none for any other line.
+#[tactic(auto, using(crate::proofs::LineOf::line_none, crate::proofs::LineOf::line_by_p, crate::proofs::LineOf::line_by_a, crate::proofs::LineOf::line_by_o, crate::proofs::LineOf::line_by_q))]
+pub fn read_line(line: &[u8]) -> Option<Line>
+    ensures { line_back result ≡ line_of (words line.now) }
 {
-    let Taken::Word(first, rest) = take_word(input, Cursor { at }, end, Kind::Letter) else {
-        return Line::Other;
-    };
-    match first {
-        99 => Line::Comment,
-        112 => problem_line(input, rest, end),
-        97 => arc_line(input, rest, end),
-        111 => seat_line(input, rest, end),
-        113 => question_line(input, rest, end),
-        _ => Line::Other,
+    let mut words = Parts::new(line, b' ');
+    // A match and no table: each arm is a reader of its own, called once.
+    match letter(words.next()?)? {
+        b'c' => Some(Line::Comment),
+        b'p' => problem_line(words),
+        b'a' => arc_line(words),
+        b'o' => seat_line(words),
+        b'q' => question_line(words),
+        _ => None,
     }
 }

@@ -1,5 +1,7 @@
 -- The proof of what specs/Answers.antt states of the calls one after the other. Assumes nothing.
 use Prim.Native.Nat.{ℕ, ◌≤◌, ◌<◌}
+use Rattle.std.specs.Prelude.{Option, Some, None, Result, Ok, Err, ⊤}
+use Rattle.rules.specs.declared.Drive.{Drive}
 use mathlib.Core.Path.{◌≡◌, refl, sym, ap, ◌∙◌, subst}
 use mathlib.Core.Logic.{◌⊎◌, inl, inr}
 use mathlib.Core.List.{List, [], ◌∷◌}
@@ -10,13 +12,6 @@ use borrow.Author.Tests.{leb-true, leb-false}
 use Rattle.rules.specs.declared.Refusal.{Refusal}
 use Rattle.rules.specs.declared.Refusal.TheVariants.{StartOrTarget, RouteRoom, DistanceRoom}
 use Rattle.rules.specs.declared.Direction.{Direction}
-use Rattle.rules.specs.declared.BuildAnswer.TheVariants as build
-use Rattle.rules.specs.declared.FillAnswer.{FillAnswer}
-use Rattle.rules.specs.declared.FillAnswer.TheVariants as fill
-use Rattle.rules.specs.declared.DistanceAnswer.{DistanceAnswer}
-use Rattle.rules.specs.declared.DistanceAnswer.TheVariants as distance
-use Rattle.rules.specs.declared.RouteAnswer.{RouteAnswer}
-use Rattle.rules.specs.declared.RouteAnswer.TheVariants as route
 use Rattle.rules.specs.Replies.{done, refusal_number, refusal_place, distance_reply, route_reply}
 use Rattle.rules.specs.Net.{Net, size, arcs}
 use Rattle.rules.specs.Graph.{Graph}
@@ -34,35 +29,35 @@ use Rattle.theory.proofs.Demand3Holds.{Stands, stands, distance_asks, sweep_asks
 -- ---- after customise
 
 -- what is true of the reply is right of the answer
-right_distance : (N : Net) (from to : ℕ) (answer : DistanceAnswer) → TrueDistance N from to (distance_reply answer) → RightDistance N from to answer
-right_distance N from to (distance.Tenths d) t =
+right_distance : (N : Net) (from to : ℕ) (answer : Result (Option ℕ) Refusal) → TrueDistance N from to (distance_reply answer) → RightDistance N from to answer
+right_distance N from to (Ok (Some d)) t =
     record {
       least = λ e h. subst (LeastWalk N from to) (cc) t;
       no_walk = λ h. clash (cc);
       no_walk_told = λ lost. absurd (lost.none t.way t.walks);
       taken = λ f h. clash (cc);
     }
-right_distance N from to distance.NoWalk t =
+right_distance N from to (Ok None) t =
     record { least = λ d h. clash (cc); no_walk = λ h. t; no_walk_told = λ lost. refl; taken = λ f h. clash (cc) }
-right_distance N from to (distance.Refused f) t = absurd t
+right_distance N from to (Err f) t = absurd t
 
 -- number 12 tells the refusal
 twelve : (f : Refusal) → refusal_number f ≡ 12 → f ≡ RouteRoom
 twelve f e = sym (refusal_back f) ∙ ap (λ n. refusal_of n (refusal_place f)) e
 
-right_route : (N : Net) (from to : ℕ) (lent : List ℕ) (answer : RouteAnswer) (left : List ℕ)
-    → TrueAnswer N from to (length lent) left (route_reply answer) → (NoWalk N from to → answer ≡ route.NoWalk)
+right_route : (N : Net) (from to : ℕ) (lent : List ℕ) (answer : Result (Option Drive) Refusal) (left : List ℕ)
+    → TrueAnswer N from to (length lent) left (route_reply answer) → (NoWalk N from to → answer ≡ Ok None)
     → RightRoute N from to lent answer left
-right_route N from to lent (route.Drive d k) left t lost =
+right_route N from to lent (Ok (Some r)) left t lost =
     record {
-      least = λ e l h. let g : d ≡ e = cc in let i : k ≡ l = cc in rw (← g, ← i) t;
+      least = λ e l h. let g : r.distance ≡ e = cc in let i : r.arcs ≡ l = cc in rw (← g, ← i) t;
       no_walk = λ h. clash (cc);
       no_walk_told = lost;
       taken = λ f h. clash (cc);
     }
-right_route N from to lent route.NoWalk left t lost =
+right_route N from to lent (Ok None) left t lost =
     record { least = λ d k h. clash (cc); no_walk = λ h. t; no_walk_told = lost; taken = λ f h. clash (cc) }
-right_route N from to lent (route.Refused g) left t lost =
+right_route N from to lent (Err g) left t lost =
     record {
       least = λ d k h. clash (cc);
       no_walk = λ h. clash (cc);
@@ -81,45 +76,45 @@ sweep_after_customise N rank G C₀ C h d j l lent answer left long q =
     let (e, t) =
     subst (λ (x : SweepLeaves). (x.reply ≡ done) × TrueList N d j x.distances) (sym q)
     (sweep_right N rank G C (record { before = C₀; leaves = sym h }) d j l lent long) in
-    (fill_answers answer fill.Done e, t)
+    (fill_answers answer (Ok tt) e, t)
 
 pub route_after_customise : RouteAfterCustomise
 route_after_customise N rank G C₀ C h from to l m lent answer left q =
     right_route N from to lent answer left
     (subst (λ (x : RouteLeaves). TrueAnswer N from to (length lent) x.route x.reply) (sym q) (route_right N rank G C (record { before = C₀; leaves = sym h }) from to l m lent))
     (λ lost.
-    route_answers answer route.NoWalk
+    route_answers answer (Ok None)
     (ap (λ (x : RouteLeaves). x.reply) q ∙ route_none (stands N rank G C₀ C (sym h)) from to l m lost lent))
 
 -- with lists that customise left, a question is refused for junctions outside the net
 distance_outside : {N : Net} {rank : List ℕ} {G : Graph} {C₀ C : EdgeCosts} → Stands N rank G C₀ C → (from to : ℕ) → Outside N from to
-    → (answer : DistanceAnswer) → TellsDistance N rank G C from to answer → answer ≡ distance.Refused StartOrTarget
+    → (answer : Result (Option ℕ) Refusal) → TellsDistance N rank G C from to answer → answer ≡ Err StartOrTarget
 unfolding distance_leaves
 distance_outside {N} S from to o answer q =
-    distance_answers answer (distance.Refused StartOrTarget)
+    distance_answers answer (Err StartOrTarget)
     (ap (λ (x : DistanceLeaves). x.reply) q ∙ rw (distance_asks S from to ∙ outside_fails (size N) from to o) refl)
 
 -- a sweep is refused as the checks of its junction and of its list's length say
 sweep_refused : {N : Net} {rank : List ℕ} {G : Graph} {C₀ C : EdgeCosts} → Stands N rank G C₀ C → (d : Direction) (j : ℕ)
-    (lent : List ℕ) (answer : FillAnswer) (left : List ℕ) → Sweeps N rank G C d j lent answer left
+    (lent : List ℕ) (answer : Result ⊤ Refusal) (left : List ℕ) → Sweeps N rank G C d j lent answer left
     → (r : Refusal) → first_failure (check11 (size N) j j ∷ check15 (size N) lent ∷ []) ≡ fails (refusal_number r) (refusal_place r)
-    → answer ≡ fill.Refused r
+    → answer ≡ Err r
 unfolding sweep_leaves
 sweep_refused S d j lent answer left q r v =
-    fill_answers answer (fill.Refused r) (ap (λ (x : SweepLeaves). x.reply) q ∙ rw (sweep_asks S j lent ∙ v) refl)
+    fill_answers answer (Err r) (ap (λ (x : SweepLeaves). x.reply) q ∙ rw (sweep_asks S j lent ∙ v) refl)
 
 route_outside : {N : Net} {rank : List ℕ} {G : Graph} {C₀ C : EdgeCosts} → Stands N rank G C₀ C → (from to : ℕ) → Outside N from to
-    → (lent : List ℕ) (answer : RouteAnswer) (left : List ℕ) → TellsRoute N rank G C from to lent answer left
-    → answer ≡ route.Refused StartOrTarget
+    → (lent : List ℕ) (answer : Result (Option Drive) Refusal) (left : List ℕ) → TellsRoute N rank G C from to lent answer left
+    → answer ≡ Err StartOrTarget
 unfolding route_leaves
 route_outside {N} S from to o lent answer left q =
-    route_answers answer (route.Refused StartOrTarget)
+    route_answers answer (Err StartOrTarget)
     (ap (λ (x : RouteLeaves). x.reply) q ∙ rw (route_asks S from to ∙ outside_fails (size N) from to o) refl)
 
 -- ---- after build
 
 -- customise's checks pass
-built_passes : (N : Net) (rank₀ rank : List ℕ) (G₀ G : Graph) (e : ℕ) → Builds N rank₀ G₀ (build.Edges e) rank G
+built_passes : (N : Net) (rank₀ rank : List ℕ) (G₀ G : Graph) (e : ℕ) → Builds N rank₀ G₀ (Ok e) rank G
     → Priced N → (C₀ : EdgeCosts) → e ≤ length C₀.up → e ≤ length C₀.down → customise_checks N rank G C₀ ≡ passes
 unfolding customise_checks
 built_passes N rank₀ rank G₀ G e h p C₀ u d =
@@ -134,10 +129,10 @@ built_passes N rank₀ rank G₀ G e h p C₀ u d =
 
 -- so that it is done
 done_told : (N : Net) (rank : List ℕ) (G : Graph) (C₀ : EdgeCosts) → customise_checks N rank G C₀ ≡ passes
-    → (answer : FillAnswer) (C : EdgeCosts) → Customises N rank G C₀ answer C → answer ≡ fill.Done
+    → (answer : Result ⊤ Refusal) (C : EdgeCosts) → Customises N rank G C₀ answer C → answer ≡ Ok tt
 unfolding customise_leaves
 done_told N rank G C₀ c answer C h =
-    fill_answers answer fill.Done (ap (λ (x : CustomiseLeaves). x.reply) h ∙ rw c refl)
+    fill_answers answer (Ok tt) (ap (λ (x : CustomiseLeaves). x.reply) h ∙ rw c refl)
 
 -- both junctions are in the net, or one is not
 in_or_outside : (N : Net) (from to : ℕ) → Outside N from to ⊎ ((from < size N) × (to < size N))

@@ -1,21 +1,13 @@
 -- Each promise allows one outcome: the paper's numbers tell the answers apart, so reply and lent lists are determined. Assumes nothing.
 use Prim.Native.Nat.{ℕ}
+use Rattle.std.specs.Prelude.{Option, Some, None, Result, Ok, Err, ⊤}
+use Rattle.rules.specs.declared.Drive.{Drive}
 use mathlib.Core.Path.{◌≡◌, refl, sym, ap, ◌∙◌}
 use mathlib.Core.List.{List, [], ◌∷◌}
 use lib.ListN.{get_or}
 use Rattle.rules.specs.declared.Refusal.{Refusal}
 use Rattle.rules.specs.declared.Refusal.TheVariants.{JunctionCount, ArcLists, ArcEnd, OrderEntry, RankOrFirstRoom, HeadsRoom, NotAHierarchy, ArcWithoutEdge, ArcCost, CostLists, StartOrTarget, RouteRoom, PieceFitsNothing, Text, DistanceRoom, TooFar, ArcNumber}
 use Rattle.rules.specs.declared.Direction.{Direction}
-use Rattle.rules.specs.declared.BuildAnswer.{BuildAnswer}
-use Rattle.rules.specs.declared.BuildAnswer.TheVariants as build
-use Rattle.rules.specs.declared.FillAnswer.{FillAnswer}
-use Rattle.rules.specs.declared.FillAnswer.TheVariants as fill
-use Rattle.rules.specs.declared.ChangeAnswer.{ChangeAnswer}
-use Rattle.rules.specs.declared.ChangeAnswer.TheVariants as change
-use Rattle.rules.specs.declared.DistanceAnswer.{DistanceAnswer}
-use Rattle.rules.specs.declared.DistanceAnswer.TheVariants as distance
-use Rattle.rules.specs.declared.RouteAnswer.{RouteAnswer}
-use Rattle.rules.specs.declared.RouteAnswer.TheVariants as route
 use Rattle.rules.specs.Net.{Net}
 use Rattle.rules.specs.Replies.{Reply, refused, edges, done, far, drive, no_walk, looked, refusal_number, refusal_place, build_reply, fill_reply, change_reply, distance_reply, route_reply}
 use Rattle.rules.specs.Calls.{BuildLeaves, build_left, build_leaves, CustomiseLeaves, customise_left, customise_leaves, ChangeLeaves, change_left, change_leaves, DistanceLeaves, distance_left, distance_leaves, SweepLeaves, sweep_left, sweep_leaves, RouteLeaves, route_left, route_leaves}
@@ -88,35 +80,35 @@ answers : {A : Type 0} (reply : A → Reply) (refuse : Refusal → A) (one : ℕ
 answers reply refuse one two bare back a b e = sym (back a) ∙ ap (read_reply refuse one two bare) e ∙ back b
 
 -- the reply of each call tells its answers apart
-pub build_answers : (a b : BuildAnswer) → build_reply a ≡ build_reply b → a ≡ b
+pub build_answers : (a b : Result ℕ Refusal) → build_reply a ≡ build_reply b → a ≡ b
 build_answers =
-    answers build_reply build.Refused build.Edges (λ d k. build.Edges 0) (build.Edges 0)
-    (elim [ build.Edges e ↦ refl | build.Refused r ↦ ap build.Refused (refusal_back r) ])
+    answers build_reply Err Ok (λ d k. Ok 0) (Ok 0)
+    (elim [ Ok e ↦ refl | Err r ↦ ap Err (refusal_back r) ])
 
-pub fill_answers : (a b : FillAnswer) → fill_reply a ≡ fill_reply b → a ≡ b
+pub fill_answers : (a b : Result ⊤ Refusal) → fill_reply a ≡ fill_reply b → a ≡ b
 fill_answers =
-    answers fill_reply fill.Refused (λ e. fill.Done) (λ d k. fill.Done) fill.Done
-    (elim [ fill.Done ↦ refl | fill.Refused r ↦ ap fill.Refused (refusal_back r) ])
+    answers fill_reply Err (λ e. Ok tt) (λ d k. Ok tt) (Ok tt)
+    (elim [ Ok x ↦ refl | Err r ↦ ap Err (refusal_back r) ])
 
-pub change_answers : (a b : ChangeAnswer) → change_reply a ≡ change_reply b → a ≡ b
+pub change_answers : (a b : Result ℕ Refusal) → change_reply a ≡ change_reply b → a ≡ b
 change_answers =
-    answers change_reply change.Refused change.Triangles (λ d k. change.Triangles 0) (change.Triangles 0)
-    (elim [ change.Triangles t ↦ refl | change.Refused r ↦ ap change.Refused (refusal_back r) ])
+    answers change_reply Err Ok (λ d k. Ok 0) (Ok 0)
+    (elim [ Ok t ↦ refl | Err r ↦ ap Err (refusal_back r) ])
 
-pub distance_answers : (a b : DistanceAnswer) → distance_reply a ≡ distance_reply b → a ≡ b
+pub distance_answers : (a b : Result (Option ℕ) Refusal) → distance_reply a ≡ distance_reply b → a ≡ b
 distance_answers =
-    answers distance_reply distance.Refused distance.Tenths (λ d k. distance.NoWalk) distance.NoWalk
-    (elim [ distance.Tenths d ↦ refl | distance.NoWalk ↦ refl | distance.Refused r ↦ ap distance.Refused (refusal_back r) ])
+    answers distance_reply Err (λ d. Ok (Some d)) (λ d k. Ok None) (Ok None)
+    (elim [ Ok (Some d) ↦ refl | Ok None ↦ refl | Err r ↦ ap Err (refusal_back r) ])
 
-pub route_answers : (a b : RouteAnswer) → route_reply a ≡ route_reply b → a ≡ b
+pub route_answers : (a b : Result (Option Drive) Refusal) → route_reply a ≡ route_reply b → a ≡ b
 route_answers =
-    answers route_reply route.Refused (λ d. route.NoWalk) route.Drive route.NoWalk
-    (elim [ route.Drive d k ↦ refl | route.NoWalk ↦ refl | route.Refused r ↦ ap route.Refused (refusal_back r) ])
+    answers route_reply Err (λ d. Ok None) (λ d k. Ok (Some (record { distance = d; arcs = k }))) (Ok None)
+    (elim [ Ok (Some x) ↦ refl | Ok None ↦ refl | Err r ↦ ap Err (refusal_back r) ])
 
 -- ---- outcomes
 
 -- whatever build is lent, its promise allows one outcome: answer, rank, first and heads
-pub build_determined : (tails heads order rank₀ : List ℕ) (G₀ : Graph) (r r' : BuildAnswer) (rank rank' : List ℕ) (G G' : Graph)
+pub build_determined : (tails heads order rank₀ : List ℕ) (G₀ : Graph) (r r' : Result ℕ Refusal) (rank rank' : List ℕ) (G G' : Graph)
     → build_left rank G (build_reply r) ≡ build_leaves tails heads order rank₀ G₀
     → build_left rank' G' (build_reply r') ≡ build_leaves tails heads order rank₀ G₀
     → (r ≡ r') × (rank ≡ rank') × (G ≡ G')
@@ -128,7 +120,7 @@ build_determined tails heads order rank₀ G₀ r r' rank rank' G G' e e' =
     )
 
 -- customise's promise: answer, up and down
-pub customise_determined : (N : Net) (rank : List ℕ) (G : Graph) (C₀ : EdgeCosts) (r r' : FillAnswer) (C C' : EdgeCosts)
+pub customise_determined : (N : Net) (rank : List ℕ) (G : Graph) (C₀ : EdgeCosts) (r r' : Result ⊤ Refusal) (C C' : EdgeCosts)
     → customise_left C (fill_reply r) ≡ customise_leaves N rank G C₀
     → customise_left C' (fill_reply r') ≡ customise_leaves N rank G C₀
     → (r ≡ r') × (C ≡ C')
@@ -137,7 +129,7 @@ customise_determined N rank G C₀ r r' C C' e e' =
     (fill_answers r r' (ap (λ (x : CustomiseLeaves). x.reply) s), ap (λ (x : CustomiseLeaves). x.costs) s)
 
 -- change's promise: answer, cost list, up and down
-pub change_determined : (N : Net) (rank : List ℕ) (G : Graph) (C₀ : EdgeCosts) (arc cost : ℕ) (r r' : ChangeAnswer) (costs costs' : List ℕ) (C C' : EdgeCosts)
+pub change_determined : (N : Net) (rank : List ℕ) (G : Graph) (C₀ : EdgeCosts) (arc cost : ℕ) (r r' : Result ℕ Refusal) (costs costs' : List ℕ) (C C' : EdgeCosts)
     → change_left costs C (change_reply r) ≡ change_leaves N rank G C₀ arc cost
     → change_left costs' C' (change_reply r') ≡ change_leaves N rank G C₀ arc cost
     → (r ≡ r') × (costs ≡ costs') × (C ≡ C')
@@ -149,7 +141,7 @@ change_determined N rank G C₀ arc cost r r' costs costs' C C' e e' =
     )
 
 -- distance's promise: the answer
-pub distance_determined : (order rank : List ℕ) (G : Graph) (C : EdgeCosts) (from to : ℕ) (r r' : DistanceAnswer)
+pub distance_determined : (order rank : List ℕ) (G : Graph) (C : EdgeCosts) (from to : ℕ) (r r' : Result (Option ℕ) Refusal)
     → distance_left (distance_reply r) ≡ distance_leaves order rank G C from to
     → distance_left (distance_reply r') ≡ distance_leaves order rank G C from to
     → r ≡ r'
@@ -158,7 +150,7 @@ distance_determined order rank G C from to r r' e e' =
 
 -- the promise of either sweep: the answer and the distances
 pub sweep_determined : (order rank : List ℕ) (G : Graph) (C : EdgeCosts) (d : Direction) (j : ℕ) (distances₀ : List ℕ)
-    (r r' : FillAnswer) (distances distances' : List ℕ)
+    (r r' : Result ⊤ Refusal) (distances distances' : List ℕ)
     → sweep_left distances (fill_reply r) ≡ sweep_leaves order rank G C d j distances₀
     → sweep_left distances' (fill_reply r') ≡ sweep_leaves order rank G C d j distances₀
     → (r ≡ r') × (distances ≡ distances')
@@ -168,7 +160,7 @@ sweep_determined order rank G C d j distances₀ r r' distances distances' e e' 
 
 -- route's promise: answer and route
 pub route_determined : (N : Net) (rank : List ℕ) (G : Graph) (C : EdgeCosts) (from to : ℕ) (route₀ : List ℕ)
-    (r r' : RouteAnswer) (route route' : List ℕ)
+    (r r' : Result (Option Drive) Refusal) (route route' : List ℕ)
     → route_left route (route_reply r) ≡ route_leaves N rank G C from to route₀
     → route_left route' (route_reply r') ≡ route_leaves N rank G C from to route₀
     → (r ≡ r') × (route ≡ route')

@@ -303,6 +303,13 @@ module _ {G : Graph} {x : ℕ} (U : Turn G x) where
       let (rest, is, once, C) = chain_rest links k z W.here.rows W.here.chain e in
       W.here.each z (subst (λ l. T (has l z)) (sym is) (has_here z z rest refl))
 
+  -- it is the one before k
+  pub met_low : {k : ℕ} {links places : List ℕ} → Waiting G x k links places → k ≤ x
+  met_low {k} W =
+      either (split (ltb 0 k))
+      (λ t. let l = ltb-true 0 k t in omega (arith, (met_first W (k - 1) (let e : k ≡ suc (k - 1) = omega arith in e)).0))
+      (λ t. omega (arith, ltb-false 0 k t))
+
   module _ {k : ℕ} {links places : List ℕ} (W : Waiting G x k links places) (z i : ℕ) (e : k ≡ suc z) (ei : i ≡ get_or places z 0) where
     -- it has x at place i
     pub met : (z < count G.first) × (z < x) × InRow G z i × (get_or G.heads i 0 ≡ x)

@@ -4,7 +4,7 @@ use Rattle.rules.specs.declared.Direction.{Direction}
 use Rattle.rules.specs.Graph.{Graph}
 use Rattle.rules.specs.Hierarchy.{EdgeCosts, along}
 use Rattle.theory.specs.Rows.{count}
-use Rattle.lists.specs.Lent.{chosen}
+use Rattle.rules.specs.Lent.{chosen}
 
 -- the number of edges
 abbrev pub edges_of : (G : Graph) → ℕ

@@ -4,7 +4,7 @@ use mathlib.Core.Path.{◌≡◌, ap, ◌∙◌, subst}
 use native.Mathlib.Omega.{arith}
 use lib.Dec.{T}
 use lib.ListN.{length, get_or}
-use Rattle.rules.specs.declared.Found.TheVariants.{At}
+use Rattle.std.specs.Prelude.{Some}
 use Rattle.rules.specs.Graph.{Graph}
 use Rattle.rules.specs.Hierarchy.{EdgeCosts, linked, place, held}
 use Rattle.theory.specs.Rows.{InRow, Rows, count, Lists}
@@ -40,7 +40,7 @@ edge_of {G} {C} L z y k h r e =
     }
 
 -- an edge that is found stands where it is found
-pub found_edge : {G : Graph} {C : EdgeCosts} → Lists G C → (z y k : ℕ) → z < count G.first → edge_found G z y ≡ At k → Edge G C z y k
+pub found_edge : {G : Graph} {C : EdgeCosts} → Lists G C → (z y k : ℕ) → z < count G.first → edge_found G z y ≡ Some k → Edge G C z y k
 found_edge L z y k h f = let (r, e) = edge_at L.rows z y k h f in edge_of L z y k h r e
 
 -- under another name of its higher end

@@ -1,24 +1,20 @@
 -- `words_fault` meets its contract. Assumes nothing.
-use mathlib.Core.Path.{refl}
-use Rattle.cause.specs.Causes.{words_fault}
-use Rattle.cause.proofs.LineFault.{words_on}
+use Rattle.std.proofs.Common.{rules, ◌≡◌, sym, ◌∙◌}
+use Rattle.cause.proofs.LineFault.{first_letter, no_form, words_right, words_off}
 use Rattle.cause.proofs.words_fault.Goals as goal
 
 pub returns-in_default : goal.returns-in_default
-unfolding words_fault
 returns-in_default c =
-    rw (words_on _ _ _ _ c.requires.0 c.part_end-to.ensures, ← c.letter_of.ensures, c.in_default.is) refl
+    let e : c.and_then.result ≡ first_letter c.next.result = search rules in
+    no_form _ _ _ c.next.result (rw c.new-words.ensures at c.next.ensures.steps) (sym e ∙ c.in_default.is)
 
-pub returns-in_default-first_off : goal.returns-in_default-first_off
-unfolding words_fault
-returns-in_default-first_off c =
-    rw
-    (words_on _ _ _ _ c.requires.0 c.part_end-to.ensures, ← c.letter_of.ensures, c.in-Of.is, ← c.first_off.ensures, c.in_default-first_off.is)
-    c.place_fault.ensures
+pub returns-in-Ok : goal.returns-in-Ok
+returns-in-Ok c =
+    let e : c.and_then.result ≡ first_letter c.next.result = search rules in
+    rw c.place_fault.ensures
+    (words_right _ _ _ c.next.result _ (rw c.new-words.ensures at c.next.ensures.steps) (sym e ∙ c.in-Some.is) c.in-Ok.ensures)
 
-pub returns : goal.returns
-unfolding words_fault
-returns c =
-    rw
-    (words_on _ _ _ _ c.requires.0 c.part_end-to.ensures, ← c.letter_of.ensures, c.in-Of.is, ← c.first_off.ensures, c.in-Off.is)
-    refl
+pub returns-in-Err : goal.returns-in-Err
+returns-in-Err c =
+    let e : c.and_then.result ≡ first_letter c.next.result = search rules in
+    words_off _ _ _ c.next.result _ _ (rw c.new-words.ensures at c.next.ensures.steps) (sym e ∙ c.in-Some.is) c.in-Err.ensures

@@ -1,96 +1,51 @@
 -- `lay_row` meets its contract: the marked edges before place k are listed and have their roads. Assumes nothing.
-use native.Mathlib.Omega.{arith}
-use mathlib.Core.Path.{refl}
-use Prim.Native.Nat.{◌<◌}
-use lib.ListN.{length}
-use Rattle.change.proofs.Walked.{walk_reads}
-use Rattle.change.proofs.Laid.{walk_few, listing_room, laying_start, laying_past, laying_more, laying_all, laying_ends}
+use Rattle.std.proofs.Common.{arith, refl}
+use Rattle.rules.specs.Lent.{lent_graph}
+use Rattle.theory.specs.Rows.{InRow}
+use Rattle.theory.proofs.Rows.{in_row_i}
+use Rattle.change.proofs.Walked.{row_reads}
+use Rattle.change.proofs.Laid.{row_small, listing_room, laying_start, laying_past, laying_more, laying_all, laying_ends}
+use Rattle.roads.proofs.OfNet.{roads_in}
 use Rattle.change.proofs.lay_row.Goals as goal
-use Rattle.change.proofs.lay_row.Goals.{After-wide-y, In-loop-k, then-marks-y-ne0, else-marks-y-ne0}
+use Rattle.change.proofs.lay_row.Goals.{In-loop-k, then-marks-y, else-marks-y}
 
--- place k has an entry
-reads : (c : In-loop-k)
-    → c.loop-k.k < length c.args.row_heads.now
-reads c =
-    let p = c.requires in
-    (walk_reads p.0 c.loop-k.invariant.walk c.loop-k-test.true).0
-
--- which is a position
-seat : (c : After-wide-y) → c.wide-y.result < 4096
-seat c =
-    let p = c.requires in
-    omega (arith, (walk_reads p.0 c.loop-k.invariant.walk c.loop-k-test.true).1, c.wide-y.ensures)
-
--- the list has room for one more, and a number of 32 bits holds place k
-room : (c : In-loop-k) → (c.loop-k.c < 4096) × (c.loop-k.k < 8388608)
-room c =
-    let p = c.requires in
-    let L = c.loop-k.invariant in
-    (listing_room L.listing p.0 L.walk c.loop-k-test.true, walk_few p.0 L.walk c.loop-k-test.true)
+-- place k is one of the row
+here : (c : In-loop-k) → InRow (lent_graph c.args.shift.now.graph) c.args.x c.loop-k.k
+here c = in_row_i (lent_graph c.args.shift.now.graph) c.args.x c.loop-k.k (omega arith) (omega arith)
 
 pub loop-k-init : goal.loop-k-init
-loop-k-init c =
-    let p = c.requires in
-    laying_start p.3 p.4 c.wide-end.ensures c.wide-k.ensures
+loop-k-init c = laying_start c.requires.3 c.requires.4
 
-pub offset_bounds-row_heads-k : goal.offset_bounds-row_heads-k
-offset_bounds-row_heads-k c = omega (arith, reads (goal.at.offset_bounds-row_heads-k c).In-loop-k)
-
-pub bounds-row_heads-k : goal.bounds-row_heads-k
-bounds-row_heads-k c = omega (arith, reads (goal.at.bounds-row_heads-k c).In-loop-k)
+pub bounds-shift-k : goal.bounds-shift-k
+bounds-shift-k c = (row_reads c.requires.0 (here (goal.at.bounds-shift-k c).In-loop-k)).0
 
 pub bounds-marks-y : goal.bounds-marks-y
-bounds-marks-y c = omega (arith, seat (goal.at.bounds-marks-y c).After-wide-y)
-
-pub overflow_cast-high : goal.overflow_cast-high
-overflow_cast-high c = omega (arith, seat (goal.at.overflow_cast-high c).After-wide-y)
+bounds-marks-y c = omega (arith, (row_reads c.requires.0 (here (goal.at.bounds-marks-y c).In-loop-k)).1)
 
 pub road_cost-requires : goal.road_cost-requires
 road_cost-requires c =
     let p = c.requires in
-    let (a, b, n, m) = laying_ends p.0 c.loop-k.invariant.walk c.loop-k-test.true c.wide-y.ensures p.1 in
-    (p.2, a, b, n)
+    let (a, b, n, m) = laying_ends p.0 (here (goal.at.road_cost-requires c).In-loop-k) p.1 in (roads_in p.2, a, b, n)
 
-pub offset_bounds-ups-y : goal.offset_bounds-ups-y
-offset_bounds-ups-y c = omega (arith, seat (goal.at.offset_bounds-ups-y c).After-wide-y)
-
-pub bounds-ups-y : goal.bounds-ups-y
-bounds-ups-y c = omega (arith, seat (goal.at.bounds-ups-y c).After-wide-y)
-
-pub road_cost-requires-then-marks-y-ne0 : goal.road_cost-requires-then-marks-y-ne0
-road_cost-requires-then-marks-y-ne0 c =
+pub road_cost-requires-then-marks-y : goal.road_cost-requires-then-marks-y
+road_cost-requires-then-marks-y c =
     let p = c.requires in
-    let (a, b, n, m) = laying_ends p.0 c.loop-k.invariant.walk c.loop-k-test.true c.wide-y.ensures p.1 in
-    (p.2, b, a, m)
+    let (a, b, n, m) = laying_ends p.0 (here (goal.at.road_cost-requires-then-marks-y c).In-loop-k) p.1 in (roads_in p.2, b, a, m)
 
-pub offset_bounds-downs-y : goal.offset_bounds-downs-y
-offset_bounds-downs-y c = omega (arith, seat (goal.at.offset_bounds-downs-y c).After-wide-y)
-
-pub bounds-downs-y : goal.bounds-downs-y
-bounds-downs-y c = omega (arith, seat (goal.at.bounds-downs-y c).After-wide-y)
-
-pub overflow_cast-todo : goal.overflow_cast-todo
-overflow_cast-todo c = omega (arith, (room (goal.at.overflow_cast-todo c).In-loop-k).1)
-
-pub offset_bounds-todo-c : goal.offset_bounds-todo-c
-offset_bounds-todo-c c = omega (arith, (room (goal.at.offset_bounds-todo-c c).In-loop-k).0)
-
-pub bounds-todo-c : goal.bounds-todo-c
-bounds-todo-c c = omega (arith, (room (goal.at.bounds-todo-c c).In-loop-k).0)
-
-pub overflow_add-c : goal.overflow_add-c
-overflow_add-c c = omega (arith, (room (goal.at.overflow_add-c c).In-loop-k).0)
+pub note-requires : goal.note-requires
+note-requires c =
+    let r = here (goal.at.note-requires c).In-loop-k in
+    (listing_room c.loop-k.invariant.listing c.requires.0 r, omega (arith, row_small c.requires.0 r))
 
 pub loop-k-preserved : goal.loop-k-preserved
 loop-k-preserved c =
-    let p = c.requires in
-    elim c.if-marks-y-ne0.branch [
-      | then-marks-y-ne0 w ↦
-          rw (w.ups-is, w.downs-is, w.todo-is, w.c-is)
-          (laying_more c.loop-k.invariant c.wide-y.ensures p.0 c.loop-k-test.true w.if-marks-y-ne0.true refl w.road_cost.ensures
-          w.road_cost-then-marks-y-ne0.ensures refl)
-      | else-marks-y-ne0 w ↦
-          rw (w.ups-is, w.downs-is, w.todo-is, w.c-is) (laying_past c.loop-k.invariant c.wide-y.ensures w.if-marks-y-ne0.false)
+    let L = c.loop-k.invariant in
+    let r = here (goal.at.loop-k-preserved c).In-loop-k in
+    elim c.if-marks-y.branch [
+      | then-marks-y w ↦
+          rw (w.row-is, w.todo-is, w.note.ensures.count)
+          (laying_more L c.requires.0 r w.if-marks-y.true refl (w.road_cost.ensures _ c.requires.2.by_tail) (w.road_cost-then-marks-y.ensures _ c.requires.2.by_tail) w.note.ensures.places)
+      | else-marks-y w ↦ rw (w.row-is, w.todo-is) (laying_past L w.if-marks-y.false)
     ]
 
 pub returns : goal.returns

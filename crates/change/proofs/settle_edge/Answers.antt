@@ -1,17 +1,19 @@
 -- `settle_edge` meets its contract: as before, or made new and flagged. Assumes nothing.
-use mathlib.Core.Path.{refl}
+use Rattle.std.proofs.Common.{refl, inl, inr}
 use Rattle.rules.specs.Hierarchy.{edge_costs}
-use Rattle.change.specs.Turning.{as_before, made_new}
-use Rattle.change.proofs.Settled.{moved_e, moved_n}
+use Rattle.look.specs.Looking.{gathered}
+use Rattle.change.specs.Turning.{made_new}
+use Rattle.change.proofs.Settled.{moved_way}
 use Rattle.change.proofs.settle_edge.Goals as goal
+use Rattle.change.proofs.settle_edge.Goals.{then-up-k-via-then-up-k, then-up-k-via-else-up-k+then-down-k}
 
-pub returns-then-moved : goal.returns-then-moved
-returns-then-moved c =
+pub returns-then-up-k : goal.returns-then-up-k
+returns-then-up-k c =
     let a = c.args in
-    let (d, n) = moved_e (edge_costs a.up.now a.down.now) (edge_costs a.ups.now a.downs.now) a.k a.y c.moved.ensures c.if-moved.true in
+    let (d, n) =
+    moved_way (edge_costs a.up.now a.down.now) (gathered a.row.now) a.k a.y
+    (elim c.then-up-k.branch [
+      | then-up-k-via-then-up-k w ↦ inl w.if-up-k.true
+      | then-up-k-via-else-up-k+then-down-k w ↦ inr (w.if-up-k.false, w.if-down-k.true)
+    ]) in
     made_new d n refl c.flag.ensures refl refl
-
-pub returns-else-moved : goal.returns-else-moved
-returns-else-moved c =
-    let a = c.args in
-    as_before (moved_n (edge_costs a.up.now a.down.now) (edge_costs a.ups.now a.downs.now) a.k a.y c.moved.ensures c.if-moved.false) refl refl refl refl

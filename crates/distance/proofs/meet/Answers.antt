@@ -1,43 +1,46 @@
 -- `meet` meets its contract: what has a label from p on is on the chain of parents of p. Assumes nothing.
-use native.Mathlib.Omega.{arith}
-use Rattle.rules.specs.Graph.{graph}
+use Rattle.std.proofs.Common.{arith}
+use Rattle.rules.specs.Lent.{lent_graph}
 use Rattle.distance.proofs.Looked.{looked_start, looked_next, looked_end}
 use Rattle.distance.proofs.Parent.{RowEnds, in_lists, parent, parent_below}
+use Rattle.distance.proofs.RowPart.{first_of, first_none}
 use Rattle.distance.proofs.meet.Goals as goal
-use Rattle.distance.proofs.meet.Goals.{After-row_end}
+use Rattle.distance.proofs.meet.Goals.{After-places-places}
 
 -- the ends of the row of p
-ends : (c : After-row_end) → (let a = c.args in RowEnds (graph a.first.now a.row_heads.now) c.loop-best.p.0 c.row_start-from.result c.row_end.result)
-ends c = record { below = c.loop-best.invariant.below; from_is = c.row_start-from.ensures; to_is = c.row_end.ensures }
+ends : (c : After-places-places) → RowEnds (lent_graph c.args.graph.now) c.chain.p.0 c.places-places.result.start c.places-places.result.end
+ends c = record { below = c.chain.invariant.below; from_is = c.places-places.ensures.start; to_is = c.places-places.ensures.end }
 
-pub loop-best-init : goal.loop-best-init
-loop-best-init c = looked_start c.requires _
+pub chain-init : goal.chain-init
+chain-init c = looked_start c.requires _
 
 pub look-best-requires : goal.look-best-requires
-look-best-requires c = omega (arith, c.loop-best.invariant.below, c.requires.few)
+look-best-requires c = omega (arith, c.chain.invariant.below, c.requires.few)
 
-pub row_start-from-requires : goal.row_start-from-requires
-row_start-from-requires c = omega (arith, c.loop-best.invariant.below, c.requires.rows.long)
+pub places-places-requires : goal.places-places-requires
+places-places-requires c = omega (arith, c.chain.invariant.below, c.requires.rows.long)
 
-pub row_end-requires : goal.row_end-requires
-row_end-requires c = omega (arith, c.loop-best.invariant.below, c.requires.rows.long)
+pub offset_bounds-graph-places : goal.offset_bounds-graph-places
+offset_bounds-graph-places c = omega (arith, in_lists c.requires.rows (ends (goal.at.offset_bounds-graph-places c).After-places-places))
 
-pub returns-then-row_end-from : goal.returns-then-row_end-from
-returns-then-row_end-from c =
-    looked_end c.requires.rows c.loop-best.invariant c.look-best.ensures (ends (goal.at.returns-then-row_end-from c).After-row_end) c.if-row_end-from.true
+pub slice_bounds-first-end : goal.slice_bounds-first-end
+slice_bounds-first-end c = omega (arith, in_lists c.requires.rows (ends (goal.at.slice_bounds-first-end c).After-places-places))
 
-pub offset_bounds-row_heads-from : goal.offset_bounds-row_heads-from
-offset_bounds-row_heads-from c = omega (arith, in_lists c.requires.rows (ends (goal.at.offset_bounds-row_heads-from c).After-row_end), c.if-row_end-from.false)
+pub returns-in_default : goal.returns-in_default
+returns-in_default c =
+    let E = ends (goal.at.returns-in_default c).After-places-places in
+    looked_end c.requires.rows c.chain.invariant c.look-best.ensures E (first_none _ _ _ (in_lists c.requires.rows E).1 c.in_default.ensures.value)
 
-pub bounds-row_heads-from : goal.bounds-row_heads-from
-bounds-row_heads-from c =
-    omega (arith, in_lists c.requires.rows (ends (goal.at.bounds-row_heads-from c).After-row_end), c.if-row_end-from.false)
-
-pub loop-best-smaller : goal.loop-best-smaller
-loop-best-smaller c =
+pub chain-smaller : goal.chain-smaller
+chain-smaller c =
     let R = c.requires.rows in
-    omega (arith, (parent R (ends (goal.at.loop-best-smaller c).After-row_end) c.if-row_end-from.false).above, parent_below R (ends (goal.at.loop-best-smaller c).After-row_end) c.if-row_end-from.false)
+    let E = ends (goal.at.chain-smaller c).After-places-places in
+    let (h, e) = first_of _ _ _ (in_lists R E).1 _ c.in-Some.ensures.value in
+    omega (arith, e, (parent R E h).above, parent_below R E h)
 
-pub loop-best-preserved : goal.loop-best-preserved
-loop-best-preserved c =
-    looked_next c.requires.rows c.loop-best.invariant c.look-best.ensures (ends (goal.at.loop-best-preserved c).After-row_end) c.if-row_end-from.false
+pub chain-preserved : goal.chain-preserved
+chain-preserved c =
+    let R = c.requires.rows in
+    let E = ends (goal.at.chain-preserved c).After-places-places in
+    let (h, e) = first_of _ _ _ (in_lists R E).1 _ c.in-Some.ensures.value in
+    rw e (looked_next R c.chain.invariant c.look-best.ensures E h)

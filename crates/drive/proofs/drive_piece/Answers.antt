@@ -1,60 +1,42 @@
 -- `drive_piece` meets its contract: joined positions have an edge, and it is opened upward or downward. Assumes nothing.
-use mathlib.Core.Path.{◌≡◌, sym, ◌∙◌}
-use native.Mathlib.Omega.{arith}
-use lib.ListN.{get_or}
-use Rattle.rules.specs.Graph.{graph}
-use Rattle.theory.specs.Rows.{InRow}
-use Rattle.theory.proofs.Rows.{linked_turn, linked_two}
+use Rattle.std.proofs.Common.{sym, ◌∙◌, ap}
+use Rattle.rules.specs.Lent.{lent_net, lent_graph, lent_costs}
+use Rattle.theory.specs.Rows.{count}
 use Rattle.lists.proofs.Found.{edge_at, edge_nowhere}
+use Rattle.lists.proofs.Positions.{lower_e, not_lower_e}
+use Rattle.roads.specs.Roads.{with_tails}
+use Rattle.unpack.specs.Opening.{put, way_along}
+use Rattle.drive.proofs.Ends.{Ends, upward, downward}
 use Rattle.drive.proofs.drive_piece.Goals as goal
-use Rattle.drive.proofs.drive_piece.Goals.{In-At, In-At-find_edge}
+use Rattle.drive.proofs.drive_piece.Goals.{Joined-lt, then-lt, else-lt}
 
--- the edge upward
-upward : (c : In-At) → (let a = c.args in InRow (graph a.first.now a.row_heads.now) a.a.0 c.in-At.k × (get_or a.row_heads.now c.in-At.k 0 ≡ a.b.0))
-upward c =
+-- the piece leads upward or downward along an edge
+ends : (c : Joined-lt)
+    → Ends (count c.args.opener.now.graph.first.now) (lent_graph c.args.opener.now.graph) c.args.a.0 c.args.b.0 c.if-lt.d.0 c.if-lt.d.1.0 c.if-lt.d.2.0
+ends c =
     let R = c.requires.0.lists.rows in
-    edge_at R c.args.a.0 c.args.b.0 _ (linked_two R _ _ c.requires.1).0 (sym c.find_edge.ensures ∙ c.in-At.is)
-
--- the edge downward
-downward : (c : In-At-find_edge) → (let a = c.args in InRow (graph a.first.now a.row_heads.now) a.b.0 c.in-At-find_edge.k × (get_or a.row_heads.now c.in-At-find_edge.k 0 ≡ a.a.0))
-downward c =
-    let R = c.requires.0.lists.rows in
-    edge_at R c.args.b.0 c.args.a.0 _ (linked_two R _ _ c.requires.1).1 (sym c.find_edge-2.ensures ∙ c.in-At-find_edge.is)
+    elim c.if-lt.branch [
+      | then-lt w ↦ rw w.d-is (upward R c.args.a.0 c.args.b.0 c.requires.1 (lower_e c.args.a.0 c.args.b.0 w.if-lt.ensures))
+      | else-lt w ↦ rw w.d-is (downward R c.args.a.0 c.args.b.0 c.requires.1 (not_lower_e c.args.a.0 c.args.b.0 w.if-lt.ensures))
+    ]
 
 pub find_edge-requires : goal.find_edge-requires
 find_edge-requires c =
-    let p = c.requires in
-    let R = p.0.lists.rows in
-    (R, (linked_two R _ _ p.1).0)
+    let e = ends (goal.at.find_edge-requires c).Joined-lt in (c.requires.0.lists.rows, e.low_in)
 
 pub returns-in_default : goal.returns-in_default
 returns-in_default c =
-    absurd (edge_nowhere c.requires.0.lists.rows c.args.a.0 c.args.b.0 c.if-a-b.true (sym c.find_edge.ensures ∙ c.in_default.is) c.requires.1)
+    let e = ends (goal.at.returns-in_default c).Joined-lt in
+    absurd (edge_nowhere c.requires.0.lists.rows _ _ e.rises (sym c.find_edge.ensures ∙ c.in_default.is) e.joined)
 
-pub open_up-requires : goal.open_up-requires
-open_up-requires c =
-    let p = c.requires in
-    (p.0, (linked_two p.0.lists.rows _ _ p.1).0, (upward (goal.at.open_up-requires c).In-At).0)
-
-pub returns-then-a-b : goal.returns-then-a-b
-returns-then-a-b c = λ tails by. rw (upward (goal.at.returns-then-a-b c).In-At).1 at (c.open_up.ensures tails by)
-
-pub find_edge-requires-2 : goal.find_edge-requires-2
-find_edge-requires-2 c =
-    let p = c.requires in
-    let R = p.0.lists.rows in
-    (R, (linked_two R _ _ p.1).1)
-
-pub returns-in_default-find_edge : goal.returns-in_default-find_edge
-returns-in_default-find_edge c =
-    let R = c.requires.0.lists.rows in
-    let (x, y, apart) = linked_two R _ _ c.requires.1 in
-    absurd (edge_nowhere R c.args.b.0 c.args.a.0 (omega (arith, c.if-a-b.false)) (sym c.find_edge-2.ensures ∙ c.in_default-find_edge.is) (linked_turn _ c.args.a.0 c.args.b.0 c.requires.1))
-
-pub open_down-requires : goal.open_down-requires
-open_down-requires c =
-    let p = c.requires in
-    (p.0, (linked_two p.0.lists.rows _ _ p.1).1, (downward (goal.at.open_down-requires c).In-At-find_edge).0)
+pub open-requires : goal.open-requires
+open-requires c =
+    let e = ends (goal.at.open-requires c).Joined-lt in
+    (c.requires.0, e.low_in, (edge_at c.requires.0.lists.rows _ _ _ e.low_in (sym c.find_edge.ensures ∙ c.in-Some.is)).0)
 
 pub returns : goal.returns
-returns c = λ tails by. rw (downward (goal.at.returns c).In-At-find_edge).1 at (c.open_down.ensures tails by)
+returns c tails B =
+    let e = ends (goal.at.returns c).Joined-lt in
+    let (r, there) = edge_at c.requires.0.lists.rows _ _ _ e.low_in (sym c.find_edge.ensures ∙ c.in-Some.is) in
+    rw there at (c.open.ensures tails B)
+    ∙ ap (λ way. put way c.args.at c.args.route.now) (e.same (way_along (with_tails (lent_net c.args.opener.now.net) tails) (lent_graph c.args.opener.now.graph) (lent_costs c.args.opener.now.costs)))

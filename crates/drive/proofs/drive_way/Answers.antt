@@ -1,50 +1,33 @@
 -- `drive_way` meets its contract: the pieces before place i of the way have been driven. Assumes nothing.
-use borrow.Author.Rules.{rules}
-use Prim.Native.Nat.{◌+◌, ◌<◌}
-use mathlib.Core.Path.{refl}
-use native.Mathlib.Omega.{arith}
-use lib.ListN.{get_or}
-use lib.Dec.{T}
-use Rattle.rules.specs.Graph.{graph}
-use Rattle.rules.specs.Hierarchy.{linked}
-use Rattle.theory.proofs.Rows.{linked_two}
-use Rattle.unpack.proofs.Put.{stops_e}
-use Rattle.drive.proofs.Given.{by_tail, ready}
-use Rattle.drive.proofs.WayOver.{driving_start, driving_more, driving_stop, driving_end}
+use Rattle.std.proofs.Common.{ℕ, refl, ap, ◌∙◌, Err}
+use Rattle.std.proofs.lemmas.Result.{err_from_is_err_and}
+use Rattle.unpack.specs.Opening.{ran}
+use lib.ListN.{length-replicate}
+use Rattle.roads.proofs.OfNet.{roads_in}
+use Rattle.drive.proofs.Given.{threaded, ready}
+use Rattle.drive.proofs.WayOver.{driving_more, driving_stop, driving_end}
 use Rattle.drive.proofs.drive_way.Goals as goal
-use Rattle.drive.proofs.drive_way.Goals.{In-loop-i}
+
+pub thread-requires : goal.thread-requires
+thread-requires c = (c.requires.0.tails_in, c.requires.0.fit, refl, length-replicate {A = ℕ} 16384 0)
+
+-- what opening reads is threaded
+pub invariant_of-opener : goal.invariant_of-opener
+invariant_of-opener c = record { readable = roads_in (threaded c.requires.0 c.thread.ensures) }
 
 -- the next two positions are joined
-joined : (c : In-loop-i) → (T (linked (graph c.args.first.now c.args.row_heads.now) (get_or c.args.way.now c.loop-i.i 0) (get_or c.args.way.now (c.loop-i.i + 1) 0)))
-joined c =
-    c.requires.1.edge c.loop-i.i c.loop-i.invariant.1.low c.loop-i-test.true
+pub drive_piece-requires : goal.drive_piece-requires
+drive_piece-requires c =
+    (ready c.requires.0 c.find_lows.ensures, c.requires.1.edge c.loop-i.i c.loop-i.invariant.low c.loop-i-test.true)
 
--- and positions of the net
-small : (c : In-loop-i) → ((get_or c.args.way.now c.loop-i.i 0 < 4096) × (get_or c.args.way.now (c.loop-i.i + 1) 0 < 4096))
-small c = let joined_here : (T (linked (graph c.args.first.now c.args.row_heads.now) (get_or c.args.way.now c.loop-i.i 0) (get_or c.args.way.now (c.loop-i.i + 1) 0))) = c.requires.1.edge c.loop-i.i c.loop-i.invariant.1.low c.loop-i-test.true in
-    let L = c.requires.0.lists in
-    let (x, y, z) = linked_two L.rows _ _ (joined_here) in
-    (omega (arith, L.few), omega (arith, L.few))
-
-pub loop-i-init : goal.loop-i-init
-loop-i-init c =
-    (refl, driving_start _ _ _ _ _ _ _ c.requires.1.rise)
-
-pub drive_piece-told-requires : goal.drive_piece-told-requires
-drive_piece-told-requires c =
-    (ready c.requires.0 c.thread_tails.ensures c.find_lows.ensures, joined (goal.at.drive_piece-told-requires c).In-loop-i)
-
-pub returns-in_default : goal.returns-in_default
-returns-in_default c =
-    driving_stop _ _ _ _ _ _ c.loop-i.invariant.1 c.loop-i-test.true (c.drive_piece-told.ensures c.args.tails.now (by_tail c.requires.0 c.thread_tails.ensures)) (stops_e c.drive_piece-told.result c.in_default.not-Next)
-
-pub overflow_add-i-in-loop-i : goal.overflow_add-i-in-loop-i
-overflow_add-i-in-loop-i c =
-    omega (arith, c.loop-i-test.true, c.requires.1.room)
+pub returns-in_err-at : goal.returns-in_err-at
+returns-in_err-at c =
+    let (why, e, f) = err_from_is_err_and c.from_residual.result c.from_residual.ensures.1 in
+    ap (λ answer. ran answer c.drive_piece.new.route) (e ∙ ap Err f)
+    ∙ driving_stop _ _ _ _ _ _ c.loop-i.invariant c.loop-i-test.true (c.drive_piece.ensures _ (threaded c.requires.0 c.thread.ensures).by_tail) c.in_err-at.was
 
 pub loop-i-preserved : goal.loop-i-preserved
-loop-i-preserved c =
-    (search rules, driving_more _ _ _ _ _ _ c.loop-i.invariant.1 c.loop-i-test.true (c.drive_piece-told.ensures c.args.tails.now (by_tail c.requires.0 c.thread_tails.ensures)) _ c.in-Next.is)
+loop-i-preserved c = driving_more _ _ _ _ _ _ c.loop-i.invariant c.loop-i-test.true (c.drive_piece.ensures _ (threaded c.requires.0 c.thread.ensures).by_tail) _ c.in_ok-at.was
 
 pub returns : goal.returns
-returns c = driving_end _ _ _ _ _ _ c.loop-i.invariant.1 c.loop-i-test.false
+returns c = driving_end _ _ _ _ _ _ c.loop-i.invariant c.loop-i-test.false

@@ -1,10 +1,10 @@
 -- `judge_text` meets its contract: the net is taken, or refused at a line. Assumes nothing.
-use mathlib.Core.Path.{◌∙◌}
-use Rattle.fault.proofs.Judged.{judged_done, judged_refused}
+use Rattle.std.proofs.Common.{◌≡◌, ◌∙◌, rules}
+use Rattle.fault.specs.Faults.{told}
+use Rattle.fault.proofs.Judged.{net_told, judged_lem}
 use Rattle.fault.proofs.judge_text.Goals as goal
 
-pub returns-in_default : goal.returns-in_default
-returns-in_default c = judged_done _ c.judge_net.result _ c.judge_net.ensures c.in_default.is
-
 pub returns : goal.returns
-returns c = c.refused_at.ensures ∙ judged_refused _ c.judge_net.result _ c.judge_net.ensures _ c.in-Refused.is
+returns c =
+    let e : told c.map_err.result ≡ net_told c.args.input.now c.judge_net.result = search rules in
+    e ∙ judged_lem _ c.judge_net.result _ c.judge_net.ensures

@@ -1,11 +1,12 @@
 -- `met_in` meets its contract: what is left to meet is sought from `next` on, by a law for each entry that is looked at. Assumes nothing.
 use Prim.Native.Nat.{◌+◌}
-use mathlib.Core.Path.{◌≡◌}
+use mathlib.Core.Path.{◌≡◌, sym, ◌∙◌}
+use borrow.Author.Tests.{eqb-true, eqb-false, ltb-true}
 use native.Mathlib.Omega.{arith}
 use lib.ListN.{get_or}
 use Rattle.hierarchy.proofs.InOrder.{Met, sought_none, sought_miss, sought_hit, sought_end, met_all, met_some, met_hit, met_miss}
 use Rattle.hierarchy.proofs.met_in.Goals as goal
-use Rattle.hierarchy.proofs.met_in.Goals.{then-row_heads-next+else-end-at, else-row_heads-next+then-row_heads-next-3+else-end-at-2, else-row_heads-next+else-row_heads-next-3, then-row_heads-next-2, else-row_heads-next-2, Joined-row_heads-next-2, Then-row_heads-next-3}
+use Rattle.hierarchy.proofs.met_in.Goals.{then-next-stop, else-next-stop, then-row_heads-next+else-end-at, else-row_heads-next+then-row_heads-next-3+else-end-at-2, else-row_heads-next+else-row_heads-next-3, then-row_heads-next-2, else-row_heads-next-2, Joined-row_heads-next-2, Then-row_heads-next-3}
 
 -- two places on, where the first is wanted
 two_on : (c : Joined-row_heads-next-2) → let a = c.args in
@@ -56,11 +57,18 @@ loop-next-preserved c =
     ])
 
 pub returns-then-row_heads-next-4 : goal.returns-then-row_heads-next-4
-returns-then-row_heads-next-4 c = sought_end c.loop-next.invariant c.requires.3 c.if-next-stop.true (omega (arith, c.loop-next-test.false)) c.if-row_heads-next-4.true
+returns-then-row_heads-next-4 c =
+    let t = c.if-row_heads-next-4.true in
+    elim c.if-next-stop.branch [
+      | then-next-stop w ↦ sought_end c.loop-next.invariant c.requires.3 w.if-next-stop.true (omega (arith, c.loop-next-test.false)) (eqb-true _ _ (sym w.value-is ∙ t))
+      | else-next-stop w ↦ absurd (omega (arith, ltb-true _ _ (sym w.value-is ∙ t), w.if-next-stop.false))
+    ]
 
 pub returns-else-row_heads-next-4 : goal.returns-else-row_heads-next-4
-returns-else-row_heads-next-4 c = let stops = c.requires.3 in
-    sought_none (sought_miss c.loop-next.invariant stops c.if-next-stop.true c.if-row_heads-next-4.false) stops (omega (arith, c.loop-next-test.false))
-
-pub returns-else-next-stop : goal.returns-else-next-stop
-returns-else-next-stop c = sought_none c.loop-next.invariant c.requires.3 (omega (arith, c.if-next-stop.false))
+returns-else-row_heads-next-4 c =
+    let f = c.if-row_heads-next-4.false in
+    f ∙ (elim c.if-next-stop.branch [
+      | then-next-stop w ↦
+          sought_none (sought_miss c.loop-next.invariant c.requires.3 w.if-next-stop.true (eqb-false _ _ (sym w.value-is ∙ f))) c.requires.3 (omega (arith, c.loop-next-test.false))
+      | else-next-stop w ↦ sought_none c.loop-next.invariant c.requires.3 w.if-next-stop.false
+    ])

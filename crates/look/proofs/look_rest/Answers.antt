@@ -5,28 +5,28 @@ use Rattle.look.proofs.Looked.{costed_part, looked_none, looked_fewer, looked_jo
 use Rattle.look.proofs.look_rest.Goals as goal
 
 pub loop-j-init : goal.loop-j-init
-loop-j-init c = let p = c.requires in (omega arith, p.0, looked_none p.3 (λ k h l t. omega arith))
+loop-j-init c = looked_none c.requires.3 (λ k h l t. omega arith)
 
 pub look_if-seen-requires : goal.look_if-seen-requires
 look_if-seen-requires c =
     let p = c.requires in
-    let (l, h, L) = c.loop-j.invariant in
+    let L = c.loop-j.invariant in
     let j<end = c.loop-j-test.true in (
-      stretch_part p.1 l (omega arith),
+      stretch_part p.1 (omega arith) (omega arith),
       costed_part p.2 (omega arith),
       L.seats,
-      omega (arith, looked_fewer p.1 l j<end L),
+      omega (arith, looked_fewer p.1 (omega arith) j<end L),
     )
 
 pub loop-j-preserved : goal.loop-j-preserved
 loop-j-preserved c =
     let p = c.requires in
-    let (l, h, L) = c.loop-j.invariant in
+    let L = c.loop-j.invariant in
     let j<end = c.loop-j-test.true in
-    (omega arith, omega arith, looked_join (stretch_part p.1 (omega arith) (omega arith)) l (omega arith) L c.look_if-seen.ensures)
+    looked_join (stretch_part p.1 (omega arith) (omega arith)) (omega arith) (omega arith) L c.look_if-seen.ensures
 
 pub returns : goal.returns
 returns c =
     let p = c.requires in
-    let (l, h, L) = c.loop-j.invariant in
-    looked_join p.1 l h L (looked_none L.seats (λ k g m t. omega (arith, c.loop-j-test.false)))
+    let L = c.loop-j.invariant in
+    looked_join p.1 (omega arith) (omega arith) L (looked_none L.seats (λ k g m t. omega (arith, c.loop-j-test.false)))

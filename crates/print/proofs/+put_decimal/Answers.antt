@@ -1,22 +1,33 @@
--- `put_decimal` meets its contract: it calls itself with a lesser number. Assumes nothing.
-use mathlib.Core.Path.{◌∙◌}
-use native.Mathlib.Omega.{arith}
-use Rattle.print.proofs.Wrote.{wrote_then, number_ends, decimal_one, decimal_more, decimal_room}
+-- The last digit stands behind the others, if there are any. Assumes nothing.
+use Rattle.std.proofs.Common.{◌≡◌, ◌<◌, ◌∙◌, sym, ap, [], ◌∷◌, ◌++◌, ◌+◌, ◌%◌, length, List, ℕ, arith, length-append}
+use Rattle.print.proofs.Wrote.{digit_last, digit_alone, decimal_few, decimal_room}
 use Rattle.print.proofs.+put_decimal.Goals as goal
+use Rattle.print.proofs.+put_decimal.Goals.{then-x-ge10, else-x-ge10}
 
-pub returns-then-x-lt10-clause-wrote : goal.returns-then-x-lt10-clause-wrote
-returns-then-x-lt10-clause-wrote t c = rw (decimal_one c.args.x c.if-x-lt10.true) c.put_byte.ensures
-
-pub put_byte-requires-2 : goal.put_byte-requires-2
-put_byte-requires-2 t c =
-    let w = c.put_decimal-next.ensures.wrote in
-    (omega (arith, w.behind, decimal_room c.args.x c.if-x-lt10.false (omega arith)), w.long ∙ c.requires.1)
-
-pub returns : goal.returns
-returns t c =
-    let x = c.args.x in
-    let w =
-    number_ends _ _ x _ _ (omega arith)
-    (rw (decimal_more x c.if-x-lt10.false (omega arith)) (wrote_then _ _ _ _ _ _ _ _ c.put_decimal-next.ensures.wrote c.put_byte-2.ensures))
+-- the digit's own place, behind the others
+digit : (t : ℕ) (c : goal.After-push t) → c.push.new.self ≡ c.if-x-ge10.page ++ ((48 + c.args.x % 10) ∷ [])
+digit t c =
+    let room : length c.if-x-ge10.page < 98304 =
+    elim c.if-x-ge10.branch [
+      | then-x-ge10 w ↦ omega (arith, decimal_room c.args.x w.if-x-ge10.true (omega arith), ap length w.page-is, ap length w.put_decimal.ensures.wrote, length-append {A = ℕ})
+      | else-x-ge10 w ↦ omega (arith, ap length w.page-is)
+    ]
     in
-    record { wrote = w.0; few = w.1 }
+    c.push.ensures.whole room
+
+pub returns-clause-wrote : goal.returns-clause-wrote
+returns-clause-wrote t c =
+    elim c.if-x-ge10.branch [
+      | then-x-ge10 w ↦
+          digit t c
+          ∙ ap (λ (l : List ℕ). l ++ ((48 + c.args.x % 10) ∷ [])) (w.page-is ∙ w.put_decimal.ensures.wrote)
+          ∙ sym (digit_last c.args.page.now c.args.x w.if-x-ge10.true (omega arith))
+      | else-x-ge10 w ↦
+          digit t c
+          ∙ ap (λ (l : List ℕ). l ++ ((48 + c.args.x % 10) ∷ [])) w.page-is
+          ∙ sym (digit_alone c.args.page.now c.args.x w.if-x-ge10.false)
+    ]
+
+pub returns-clause-few : goal.returns-clause-few
+returns-clause-few t c =
+    omega (arith, decimal_few c.args.x (omega arith), ap length (returns-clause-wrote t c), length-append {A = ℕ})

@@ -1,9 +1,13 @@
--- `put_edges_line` meets its contract. Assumes nothing.
-use Rattle.print.proofs.Wrote.{wrote_then}
-use Rattle.text.specs.Program.{edges_line}
-use native.Mathlib.Omega.{arith}
+-- The line is its word, its number and its end. Assumes nothing.
+use Rattle.std.proofs.Common.{◌∙◌, sym, ap, [], ◌∷◌, ◌++◌, length, List, ℕ, arith, length-append}
+use Rattle.text.specs.Bytes.{lf, decimal}
+use Rattle.print.proofs.Wrote.{edges_parts}
 use Rattle.print.proofs.put_edges_line.Goals as goal
 
-pub returns : goal.returns
-unfolding edges_line
-returns c = let a = c.put_bytes-word.ensures in let b = c.put_decimal-number.ensures in let d = c.put_byte.ensures in record { wrote = wrote_then _ _ _ _ _ _ _ _ (wrote_then _ _ _ _ _ _ _ _ a b.wrote) d; few = omega (arith, a.behind, b.few, d.behind) }
+pub returns-clause-wrote : goal.returns-clause-wrote
+returns-clause-wrote c =
+    let word = c.put.ensures.whole (omega arith) in
+    let number = c.put_decimal.ensures.wrote ∙ ap (λ (l : List ℕ). l ++ decimal c.args.e) word in
+    c.push.ensures.whole (omega (arith, ap length word, length-append {A = ℕ}))
+    ∙ ap (λ (l : List ℕ). l ++ (lf ∷ [])) number
+    ∙ sym (edges_parts c.args.page.now c.args.e)

@@ -1,9 +1,15 @@
--- `put_refused_line` meets its contract. Assumes nothing.
-use Rattle.print.proofs.Wrote.{wrote_then}
+-- The line is its word, its number and its end. Assumes nothing.
+use Rattle.std.proofs.Common.{◌∙◌, sym, ap, [], ◌∷◌, ◌++◌, length, List, ℕ, arith, length-append}
+use Rattle.text.specs.Bytes.{lf, decimal}
 use Rattle.text.specs.Program.{refused_line}
-use native.Mathlib.Omega.{arith}
+use Rattle.print.proofs.Wrote.{refused_parts}
 use Rattle.print.proofs.put_refused_line.Goals as goal
 
-pub returns : goal.returns
-unfolding refused_line
-returns c = let a = c.put_bytes-word.ensures in let b = c.put_decimal-number.ensures in let d = c.put_byte.ensures in record { wrote = wrote_then _ _ _ _ _ _ _ _ (wrote_then _ _ _ _ _ _ _ _ a b.wrote) d; few = omega (arith, a.behind, b.few, d.behind) }
+pub returns-clause-wrote : goal.returns-clause-wrote
+returns-clause-wrote c =
+    let word = c.put.ensures.whole (omega arith) in
+    let number = c.put_decimal.ensures.wrote ∙ ap (λ (l : List ℕ). l ++ decimal c.from.result) word in
+    c.push.ensures.whole (omega (arith, ap length word, length-append {A = ℕ}))
+    ∙ ap (λ (l : List ℕ). l ++ (lf ∷ [])) number
+    ∙ sym (refused_parts c.args.page.now c.from.result)
+    ∙ ap (λ (n : ℕ). c.args.page.now ++ refused_line n) c.from.ensures

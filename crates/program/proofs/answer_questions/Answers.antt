@@ -1,20 +1,18 @@
--- `answer_questions` meets its contract: each line follows the lines before it. Assumes nothing.
-use mathlib.Core.Path.{◌∙◌}
-use native.Mathlib.Omega.{arith}
-use Rattle.rules.specs.Net.{net}
-use Rattle.program.proofs.ReplyLines.{room_left, answering_none, answering_more, answering_all}
-use Rattle.rules.specs.Graph.{graph}
-use Rattle.rules.specs.Hierarchy.{edge_costs}
+-- Each line follows the lines before it. Assumes nothing.
+use Rattle.std.proofs.Common.{rules, length, length-append}
+use Rattle.std.proofs.lemmas.Slice.Zip.{zip_turn}
+use Rattle.rules.specs.Lent.{lent_net, lent_graph, lent_costs}
+use Rattle.program.proofs.ReplyLines.{answering_none, answering_more}
 use Rattle.program.proofs.answer_questions.Goals as goal
 
-pub loop-i-init : goal.loop-i-init
-loop-i-init c = let a = c.args in answering_none (net a.tails.now a.heads.now a.costs.now a.order.now) a.rank.now (graph a.first.now a.row_heads.now) (edge_costs a.up.now a.down.now) a.froms.now a.tos.now a.output.now a.start c.requires.2
+pub loop-from-init : goal.loop-from-init
+loop-from-init c =
+    let a = c.args in
+    ((tt, tt), tt, answering_none (lent_net a.net.now) a.rank.now (lent_graph a.graph.now) (lent_costs a.costs.now) a.froms.now a.tos.now a.page.now c.requires.room.1)
 
-pub answer_question-at-requires : goal.answer_question-at-requires
-answer_question-at-requires c = let p = c.requires in let i = c.loop-i.invariant in (p.0, p.1.arcs_fit, room_left _ _ (omega (arith, c.loop-i-test.true, p.1.questions_fit)) i.few, i.wrote.long ∙ p.3)
-
-pub loop-i-preserved : goal.loop-i-preserved
-loop-i-preserved c = let a = c.args in let p = c.requires in answering_more (net a.tails.now a.heads.now a.costs.now a.order.now) a.rank.now (graph a.first.now a.row_heads.now) (edge_costs a.up.now a.down.now) a.froms.now a.tos.now a.output.now a.start _ _ c.loop-i.invariant p.1.ends_there c.loop-i-test.true c.answer_question-at.ensures.wrote c.answer_question-at.ensures.few
-
-pub returns : goal.returns
-returns c = let a = c.args in answering_all (net a.tails.now a.heads.now a.costs.now a.order.now) a.rank.now (graph a.first.now a.row_heads.now) (edge_costs a.up.now a.down.now) a.froms.now a.tos.now a.output.now a.start c.loop-i.invariant c.requires.1.ends_there c.loop-i-test.false
+pub loop-from-preserved : goal.loop-from-preserved
+loop-from-preserved c =
+    let a = c.args in
+    let i = length c.loop-from.yielded in
+    let turn = zip_turn a.froms.now a.tos.now c.loop-from.yielded c.into_iter-from-iterator.result c.loop-from.from-iterator c.next.new.self c.next.result (search rules) (search rules) c.loop-from.yielded_by (c.in-Some.from, c.in-Some.to) c.in-Some.is c.next.ensures.steps in
+    ((tt, tt), tt, rw (length-append c.loop-from.yielded) (answering_more (lent_net a.net.now) a.rank.now (lent_graph a.graph.now) (lent_costs a.costs.now) a.froms.now a.tos.now a.page.now c.loop-from.page c.answer_question.new.page i c.in-Some.from.now c.in-Some.to.now c.loop-from.invariant.2 turn.0 turn.1 (turn.2 0) (turn.3 0) c.answer_question.ensures.wrote c.answer_question.ensures.few))

@@ -1,16 +1,11 @@
--- `answer_questions` meets its contract: each line follows the lines before it. Assumes nothing.
-use Prim.Native.Nat.{◌-◌}
-use lib.ListN.{length}
-use Rattle.rules.specs.Net.{net}
+-- Each line follows the lines before it. Assumes nothing.
+use Rattle.std.proofs.Common.{length}
+use Rattle.rules.specs.Lent.{lent_net, lent_graph, lent_costs}
 use Rattle.program.proofs.ReplyLines.{Answering}
-use Rattle.rules.specs.Graph.{graph}
-use Rattle.rules.specs.Hierarchy.{edge_costs}
 use Rattle.program.proofs.answer_questions.Given as goal
 
-abbrev pub invariant-loop-i : goal.invariant-loop-i
-invariant-loop-i l =
-    Answering (net l.tails l.heads l.costs l.order) l.rank (graph l.first l.row_heads) (edge_costs l.up l.down) l.froms l.tos l.initial.output l.start l.output l.at l.i
-
-abbrev pub decreases-loop-i : goal.decreases-loop-i
-decreases-loop-i l =
-    length (l.froms) - l.i
+abbrev pub invariant-loop-from : goal.invariant-loop-from
+invariant-loop-from l =
+    (goal.iterator-loop-from).can_next l.from-iterator
+    × (goal.iterator-loop-from).is_finite l.from-iterator
+    × Answering (lent_net l.net) l.rank (lent_graph l.graph) (lent_costs l.costs) l.froms l.tos l.initial.page l.page (length l.yielded)

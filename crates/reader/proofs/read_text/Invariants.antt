@@ -1,11 +1,11 @@
 -- `read_text` meets its contract: what has been read by the line that comes next. Assumes nothing.
-use Rattle.reader.proofs.ReadAll.{Reads}
-use lib.ListN.{length}
-use Prim.Native.Nat.{◌-◌}
+use Rattle.std.proofs.Common.{◌+◌, ◌≤◌, ◌≡◌, length}
+use Rattle.text.specs.Program.{lines_of, read_on, read_all}
+use Rattle.reader.specs.ReadOn.{so_far}
 use Rattle.reader.proofs.read_text.Given as goal
 
-abbrev pub invariant-loop-at : goal.invariant-loop-at
-invariant-loop-at l = Reads l.input l.state l.at l.line l.tails l.heads l.costs l.order l.froms l.tos
+abbrev pub invariant-loop-rest : goal.invariant-loop-rest
+invariant-loop-rest l = record { counted : l.line + length l.rest ≤ length l.input + 1; says : read_on (so_far l.lists) l.line (lines_of l.rest) ≡ read_all l.input }
 
-abbrev pub decreases-loop-at : goal.decreases-loop-at
-decreases-loop-at l = length l.input - l.at
+abbrev pub decreases-loop-rest : goal.decreases-loop-rest
+decreases-loop-rest l = length l.rest

@@ -1,5 +1,4 @@
 -- `mark_flagged` meets its contract: each word's flagged places are marked, one word after the other. Assumes nothing.
-use mathlib.Core.Path.{◌∙◌}
 use native.Mathlib.Omega.{arith}
 use lib.ListN.{length}
 use Rattle.turns.proofs.Stretches.{stretch_part}
@@ -16,7 +15,6 @@ mark_word-requires c =
       c.loop-j-test.true,
       word_in l.j c.args.end (length c.args.flags.now) c.loop-j-test.true c.requires.1,
       stretch_part c.requires.2 l.invariant.0 (omega arith),
-      l.invariant.1.long ∙ c.requires.3,
     )
 
 pub loop-j-preserved : goal.loop-j-preserved

@@ -1,30 +1,22 @@
 -- `hand_low` meets its contract. Assumes nothing.
-use native.Mathlib.Omega.{arith}
-use mathlib.Core.Path.{ap}
-use lib.ListN.{get_or}
-use Rattle.theory.proofs.Rows.{row_ends, parent_in}
+use Rattle.std.proofs.Common.{rules, arith, refl}
+use Rattle.theory.proofs.Rows.{row_ends}
 use Rattle.unpack.proofs.Lows.{hand_alone, hand_parent}
 use Rattle.unpack.proofs.hand_low.Goals as goal
 
+pub offset_bounds-graph-row : goal.offset_bounds-graph-row
+offset_bounds-graph-row c =
+    let row = c.places-row.ensures in let e = row_ends c.requires.0 c.args.p c.requires.2 in search (rules, e, row.start, row.end, c.if-row.true)
+
 -- the row has an entry, which can be read
-pub bounds-row_heads-from : goal.bounds-row_heads-from
-bounds-row_heads-from c =
-    omega (arith, row_ends c.requires.0 c.args.p c.requires.2, c.wide-from.ensures, c.wide-to.ensures, c.if-from-to.true)
+pub bounds-graph-row : goal.bounds-graph-row
+bounds-graph-row c =
+    let row = c.places-row.ensures in omega (arith, row_ends c.requires.0 c.args.p c.requires.2, row.start, row.end, c.if-row.true)
 
--- and is a position
-pub bounds-low-parent : goal.bounds-low-parent
-bounds-low-parent c =
-    let from = c.wide-from in
-    omega (arith, parent_in c.requires.0 c.args.p c.requires.2 (omega (arith, from.ensures, c.wide-to.ensures, c.if-from-to.true)), ap (λ k. get_or c.args.row_heads.now k 0) from.ensures, c.requires.1, c.wide-parent.ensures)
+pub returns-then-row : goal.returns-then-row
+returns-then-row c =
+    let row = c.places-row.ensures in
+    hand_parent _ _ _ _ _ _ row.start row.end c.min-mine.ensures _ _ c.if-row.true refl c.min.ensures
 
-pub bounds-low-parent-then-from-to : goal.bounds-low-parent-then-from-to
-bounds-low-parent-then-from-to c =
-    let from = c.wide-from in
-    omega (arith, parent_in c.requires.0 c.args.p c.requires.2 (omega (arith, from.ensures, c.wide-to.ensures, c.if-from-to.true)), ap (λ k. get_or c.args.row_heads.now k 0) from.ensures, c.requires.1, c.wide-parent.ensures)
-
-pub returns-then-from-to : goal.returns-then-from-to
-returns-then-from-to c =
-    hand_parent _ _ _ _ _ _ c.wide-from.ensures c.wide-to.ensures c.lesser-mine.ensures _ _ c.if-from-to.true c.wide-parent.ensures c.lesser.ensures
-
-pub returns-else-from-to : goal.returns-else-from-to
-returns-else-from-to c = hand_alone _ _ _ _ _ _ c.wide-from.ensures c.wide-to.ensures c.lesser-mine.ensures c.if-from-to.false
+pub returns-else-row : goal.returns-else-row
+returns-else-row c = let row = c.places-row.ensures in hand_alone _ _ _ _ _ _ row.start row.end c.min-mine.ensures c.if-row.false
