@@ -3,12 +3,13 @@
 
 ghost use Rattle.std.specs.Prelude.{ℕ, ◌≤◌, ◌+◌, ◌<◌, ◌≡◌, length, get_or, replicate};
 ghost use Rattle.rules.specs.Costs.{closed, none, label_over};
-ghost use Rattle.rules.specs.Hierarchy.{edge_costs, linked, held, along};
-ghost use Rattle.rules.specs.Lent.{chosen, lent_graph, lent_costs};
+ghost use Rattle.rules.specs.Hierarchy.{linked, held, along};
+ghost use Rattle.rules.specs.Lent.{lent_graph, lent_costs};
 ghost use Rattle.rules.specs.Calls.{listed_distance};
 ghost use Rattle.theory.specs.Rows.{count, Lists};
 ghost use Rattle.distance.specs.Labelled.{Climbed, OfferedTo, RowOf, HandedOn, Offered, sums_at, Chained, Met, MetBetween};
 
+use lists::row_costs;
 use rules::{Cost, Direction, EdgeCosts, Graph, NONE, Position};
 
 // The distance, or the number for none, and the meeting position. The sum is no Option: while labels are compared, none is the greatest number.
@@ -60,16 +61,6 @@ fn hand_on(
     }
 }
 
-// The list of costs for a direction, and that no cost of either list is over CLOSED, as all are 32-bit numbers.
-// It takes the lists one by one, as of lists inside a struct that is not known.
-fn costs_along<'a>(up: &'a [u32], down: &'a [u32], d: Direction) -> &'a [u32]
-    ensures list { result.now ≡ chosen d (edge_costs up.now down.now) }
-    ensures small_up { (k : ℕ) → get_or up.now k 0 ≤ closed }
-    ensures small_down { (k : ℕ) → get_or down.now k 0 ≤ closed }
-{
-    EdgeCosts { up, down }.along(d)
-}
-
 // The labels from s along its chain of parents, with up costs or with down costs, and for each the lowest position that it came from.
 // A `loop`: the chain of parents is walked along, each row tells the next, and nothing is counted.
 pub fn climb(
@@ -83,16 +74,16 @@ pub fn climb(
     requires { Lists (lent_graph graph.now) (lent_costs costs.now) × (s.0 < count graph.now.first.now) × (labels.old ≡ replicate 4096 none) }
     ensures { Climbed (count graph.now.first.now) (linked (lent_graph graph.now)) (along d (held (lent_graph graph.now) (lent_costs costs.now))) s.0 labels.new came.new }
 {
-    let listed = costs_along(costs.up, costs.down, d);
     labels[s.0 as usize] = 0;
     let mut q = s;
     'chain: loop {
         let places = graph.places(q.0 as usize);
         let row = &graph.heads[places.start..places.end];
+        let listed = row_costs(costs.up, costs.down, d, places.start, places.end);
         let Some(&parent) = row.first() else {
             return;
         };
-        hand_on(row, &listed[places.start..places.end], q, labels, came);
+        hand_on(row, listed, q, labels, came);
         q = Position(parent);
     }
 }

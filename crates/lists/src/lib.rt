@@ -1,17 +1,19 @@
 // The checks on what is lent, and the smallest steps over lent lists. Each check answers the paper's verdict on its lists.
 #![tactic(auto)]
 
-ghost use Rattle.std.specs.Prelude.{◌≤◌, ◌<◌, ◌≡◌, Bool, cond, not, eqb, length, get_or, map, Option};
+ghost use Rattle.std.specs.Prelude.{ℕ, ◌≤◌, ◌<◌, ◌≡◌, Bool, cond, not, eqb, length, get_or, map, Option};
+ghost use Rattle.rules.specs.Costs.{closed};
 ghost use Rattle.std.specs.List.{list_any};
 ghost use Rattle.rules.specs.Net.{rank_list};
-ghost use Rattle.rules.specs.Lent.{lent_graph, lent_costs};
+ghost use Rattle.rules.specs.Hierarchy.{edge_costs};
+ghost use Rattle.rules.specs.Lent.{chosen, lent_graph, lent_costs};
 ghost use Rattle.rules.specs.Replies.{refusal_number, refusal_place};
 ghost use Rattle.rules.specs.Refusals.{check1, check2, check3, check4, check5, unlawful, check9, check10, check11, check15, check17, check_new_cost, fails, passes};
 ghost use Rattle.theory.specs.Orders.{Ordered};
 ghost use Rattle.theory.specs.Rows.{InRow, Rows, count};
-ghost use Rattle.lists.specs.Lent.{verdict, found_in, edge_found, filled};
+ghost use Rattle.lists.specs.Lent.{verdict, found_in, edge_found, part, filled};
 
-use rules::{Cost, EdgeCosts, Graph, Junction, Position, Refusal};
+use rules::{Cost, Direction, EdgeCosts, Graph, Junction, Position, Refusal};
 
 // A check of a whole: the lists are refused if they are at fault.
 fn refuse_if(faulty: bool, refusal: Refusal) -> Result<(), Refusal>
@@ -208,6 +210,23 @@ pub fn find_edge_from(graph: &Graph, x: Position, y: Position, at: usize) -> Opt
 {
     let row = graph.places(x.0 as usize);
     find_in_row(graph.heads, at, row.end, y)
+}
+
+// A row's costs: a part of the up list or of the down list, by direction, and no copy of either.
+// The lists come one by one, as nothing is known of lists inside a struct: here no cost of either is over CLOSED, as all are 32-bit numbers.
+pub fn row_costs<'a>(
+    up: &'a [u32],
+    down: &'a [u32],
+    d: Direction,
+    from: usize,
+    to: usize,
+) -> &'a [u32]
+    requires { (from ≤ to) × (to ≤ length up.now) × (to ≤ length down.now) }
+    ensures part { result.now ≡ part from to (chosen d (edge_costs up.now down.now)) }
+    ensures small_up { (k : ℕ) → get_or up.now k 0 ≤ closed }
+    ensures small_down { (k : ℕ) → get_or down.now k 0 ≤ closed }
+{
+    &EdgeCosts { up, down }.along(d)[from..to]
 }
 
 // One value at every place of a list from `from` on.

@@ -13,7 +13,7 @@ ghost use Rattle.theory.specs.Rows.{count, Lists};
 ghost use Rattle.sweep.specs.Swept.{far, cap, uncap, step_of, RowDown, place_gives, Labelled, SweptDown, Places, AllCapped};
 
 use distance::climb;
-use lists::position_of;
+use lists::{position_of, row_costs};
 use rules::{Cost, Direction, EdgeCosts, Graph, Junction, NONE, Refusal};
 
 // What stands for none while costs are added: no sum of costs comes near it, and it does not wrap round when it is added to itself.
@@ -71,12 +71,12 @@ fn sweep_down(graph: &Graph, costs: &EdgeCosts, d: Direction, reach: &mut [u64; 
     requires { Lists (lent_graph graph.now) (lent_costs costs.now) × Labelled (lent_graph graph.now) (lent_costs costs.now) d reach.old }
     ensures { SweptDown (lent_graph graph.now) (lent_costs costs.now) d 0 reach.old reach.new }
 {
-    let down = costs.along(d.opposite());
     for p in (0..graph.first.len() - 1).rev() {
         let places = graph.places(p);
         let row = &graph.heads[places.start..places.end];
+        let listed = row_costs(costs.up, costs.down, d.opposite(), places.start, places.end);
         let label = reach[p];
-        reach[p] = least_over(row, &down[places.start..places.end], reach, label);
+        reach[p] = least_over(row, listed, reach, label);
     }
 }
 

@@ -1,9 +1,8 @@
 -- `sweep_down` meets its contract: positions from p on are done, those below still have their labels. Assumes nothing.
-use Rattle.std.proofs.Common.{arith, ◌-◌, ◌≡◌, ap, length}
+use Rattle.std.proofs.Common.{arith, ◌-◌, ◌≡◌}
 use Rattle.rules.specs.Lent.{lent_graph}
 use Rattle.theory.specs.Rows.{count}
 use Rattle.distance.proofs.Parent.{RowEnds, in_lists}
-use Rattle.distance.proofs.RowPart.{chosen_long}
 use Rattle.sweep.proofs.Swept.{swept_row, swept_more}
 use Rattle.sweep.proofs.sweep_down.Goals as goal
 use Rattle.sweep.proofs.sweep_down.Goals.{After-places-places}
@@ -24,24 +23,20 @@ offset_bounds-graph-places c = omega (arith, in_lists c.requires.0.rows (row (go
 pub slice_bounds-row-end : goal.slice_bounds-row-end
 slice_bounds-row-end c = omega (arith, in_lists c.requires.0.rows (row (goal.at.slice_bounds-row-end c).After-places-places))
 
-pub offset_bounds-down-places : goal.offset_bounds-down-places
-offset_bounds-down-places c = omega (arith, in_lists c.requires.0.rows (row (goal.at.offset_bounds-down-places c).After-places-places))
-
-pub slice_bounds-least_over-end : goal.slice_bounds-least_over-end
-slice_bounds-least_over-end c =
+pub row_costs-listed-requires : goal.row_costs-listed-requires
+row_costs-listed-requires c =
     let L = c.requires.0 in
-    let E = row (goal.at.slice_bounds-least_over-end c).After-places-places in
-    omega (arith, in_lists L.rows E, ap length c.along-down.ensures, chosen_long L c.opposite.result _ (in_lists L.rows E).2)
+    omega (arith, in_lists L.rows (row (goal.at.row_costs-listed-requires c).After-places-places), L.up_long, L.down_long)
 
 pub least_over-requires : goal.least_over-requires
 least_over-requires c =
-    rw (c.along-down.ensures, c.opposite.ensures)
+    rw (c.row_costs-listed.ensures.part, c.opposite.ensures)
     (swept_row c.requires.0 c.loop-p.invariant c.loop-p-test.true (row (goal.at.least_over-requires c).After-places-places) c.requires.1)
 
 pub loop-p-preserved : goal.loop-p-preserved
 loop-p-preserved c =
     swept_more c.requires.0 c.loop-p.invariant c.loop-p-test.true (row (goal.at.loop-p-preserved c).After-places-places) _
-    (rw (c.along-down.ensures, c.opposite.ensures) at c.least_over.ensures)
+    (rw (c.row_costs-listed.ensures.part, c.opposite.ensures) at c.least_over.ensures)
 
 pub returns : goal.returns
 returns c = let e : c.loop-p.p ≡ 0 = omega (arith, c.loop-p-test.false) in rw e at c.loop-p.invariant
