@@ -74,7 +74,7 @@ fn lower_cost(list: &mut [u32], k: usize, way: Cost)
     requires { k < length list.old }
     ensures { list.new ≡ at_most list.old k way.0 }
 {
-    list[k] = list[k].min(way.0);
+    list[k] = Cost::least(Cost(list[k]), way).0;
 }
 
 // One lower triangle: the edge at place k, between the neighbours at places i and j of a row, costs no more than the way over the row's position.

@@ -1,4 +1,4 @@
-// The paper's words as types: what a cost, a junction, a position, a direction, a refusal and each call's answer are.
+// The paper's words as types: what a cost, a junction, a position, a direction, a refusal and a route's answer are, and the lists that come in together.
 // What each means is defined in specs/, one definition for one sentence of the paper.
 #![tactic(auto)]
 
