@@ -34,6 +34,13 @@ impl<const N: usize> Page<N> {
         }
     }
 
+    // The page is empty again: what stood on it is not told any more.
+    pub fn clear(&mut self)
+        ensures { self.new ≡ [] }
+    {
+        self.end = 0;
+    }
+
     // All that was written.
     pub fn written(&self) -> &[u8]
         ensures { result.now ≡ self.now }

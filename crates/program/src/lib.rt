@@ -16,8 +16,8 @@ ghost use Rattle.program.specs.Answered.{answer_left, answer_leaves, answered, L
 use drive::route_between;
 use griezmuld::{build, customise};
 use lists::check_question;
-use page::Page;
-use print::{Answer, put_edges_line, put_refused_line, put_reply};
+pub use print::Answer;
+use print::{put_edges_line, put_refused_line, put_reply};
 use reader::{Counts, Lists, read_text};
 use rules::{Drive, EdgeCosts, Graph, Junction, Net, Refusal};
 
@@ -191,13 +191,13 @@ fn answer_input(input: &[u8], page: &mut Answer) -> Result<(), Refusal>
     }
 }
 
-// The whole answer to any bytes: any refusal of the whole text is all that is told.
-pub fn answer(input: &[u8]) -> Answer
-    ensures { answer_left result ≡ answer_leaves input.now }
+// The whole answer to any bytes, on a page that is lent, whatever stood on it: a page that is returned would be copied, and stand on the stack
+// twice. Any refusal of the whole text is all that is told.
+pub fn answer(input: &[u8], page: &mut Answer)
+    ensures { answer_left page.new ≡ answer_leaves input.now }
 {
-    let mut page = Page::new();
-    if let Err(refusal) = answer_input(input, &mut page) {
-        put_refused_line(&mut page, refusal.number());
+    page.clear();
+    if let Err(refusal) = answer_input(input, page) {
+        put_refused_line(page, refusal.number());
     }
-    page
 }

@@ -1,7 +1,7 @@
 // The program: a text with roads, an order and questions on standard input, the answer on standard output, a failure on standard error.
 #![tactic(auto)]
 
-use program::answer;
+use program::{Answer, answer};
 use streams::{read_all, tell_unread, write_out};
 
 // Reads one byte more than a text may have, so that too long a text is seen.
@@ -12,6 +12,7 @@ fn main(rt: HostRuntime) {
         tell_unread(rt.stderr(), b"route");
         return;
     };
-    let page = answer(&input[..got]);
+    let mut page = Answer::new();
+    answer(&input[..got], &mut page);
     write_out(rt.stdout(), rt.stderr(), b"route", page.written());
 }
