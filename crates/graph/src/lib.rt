@@ -123,8 +123,9 @@ fn add_rows<const N: usize>(
     Some(end)
 }
 
-// The contraction itself, with room for the threads of N arcs.
+// The contraction itself, with room for the threads of N arcs: never inlined, so that a build that is refused has no such room on its stack.
 // Lists one by one, as build gets them: there are no costs for a Net, and first and row_heads are written.
+#[inline(never)]
 fn contract_in<const N: usize>(
     tails: &[u32],
     heads: &[u32],
