@@ -87,8 +87,8 @@ impl ChildThreads {
         ensures { (f : ℕ → ℕ) (n : ℕ) → n ≤ 4096 → Threaded f n 4096 0 result.at result.next }
     {
         ChildThreads {
-            at: [0; 4096],
-            next: [0; 4096],
+            at: [0u16; 4096],
+            next: [0u16; 4096],
         }
     }
 

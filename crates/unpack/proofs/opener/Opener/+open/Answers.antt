@@ -15,9 +15,12 @@ bounds-self-k t c = let e = piece_edge c.requires.0 c.requires.1 c.requires.2 in
 pub offset_bounds-along-k : goal.offset_bounds-along-k
 offset_bounds-along-k t c = let e = piece_edge c.requires.0 c.requires.1 c.requires.2 in search (rules, e.heads_in)
 
+-- the place is within either list, so that the costs of the wrong direction are refused where they are asked for
 pub bounds-along-k : goal.bounds-along-k
 bounds-along-k t c =
-    let (l, e) = along_costs c.args.d (piece_edge c.requires.0 c.requires.1 c.requires.2) in rw c.along.ensures l
+    let e = piece_edge c.requires.0 c.requires.1 c.requires.2 in
+    let (l, w) = along_costs c.args.d e in
+    rw c.along.ensures (search (rules, l, e.up_in, e.down_in))
 
 pub choose_along-requires : goal.choose_along-requires
 choose_along-requires t c =

@@ -1,6 +1,6 @@
 -- `fitting_arc` meets its contract. Assumes nothing.
-use Rattle.std.proofs.Common.{sym, ◌∙◌}
-use borrow.Author.Tests.{eqb-true, eqb-false}
+use Rattle.std.proofs.Common.{arith, sym, ◌∙◌}
+use borrow.Author.Tests.{eqb-false}
 use Rattle.unpack.proofs.ArcOf.{reads, unlisted, shut_piece, other_cost, same_cost}
 use Rattle.unpack.proofs.opener.Opener.fitting_arc.Goals as goal
 use Rattle.unpack.proofs.opener.Opener.fitting_arc.Goals.{then-eq-via-then-eq, then-eq-via-else-eq+then-self-arc}
@@ -14,7 +14,7 @@ pub returns-then-eq-clause-fits : goal.returns-then-eq-clause-fits
 returns-then-eq-clause-fits c tails B =
     let K = reads c.args.self.now.readable B c.requires.0 c.requires.1 c.requires.2 in
     elim c.then-eq.branch [
-      | then-eq-via-then-eq w ↦ shut_piece _ _ _ _ (eqb-true _ _ (sym w.if-eq.ensures))
+      | then-eq-via-then-eq w ↦ shut_piece _ _ _ _ (grind (arith, w.if-eq.ensures))
       | then-eq-via-else-eq+then-self-arc w ↦ other_cost K c.junction_at-u.ensures c.junction_at-v.ensures _ _ (c.in_ok-arc.ensures.last _ B) w.if-self-arc.true
     ]
 
